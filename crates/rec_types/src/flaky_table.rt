@@ -79,6 +79,8 @@ impl<T: Table> TableState for FlakyTable<T> {
     ghost origin = { λ t. T.origin t.inner };
 
     ghost commits = { T.commits };
+
+    ghost doubt = { T.doubt };
 }
 
 // A method's clauses stand in place of its trait's, so these are written again before those that tell

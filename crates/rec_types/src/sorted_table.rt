@@ -170,6 +170,8 @@ impl TableState for SortedTable {
     ghost origin = { λ _. tt };
 
     ghost commits = { λ _. [] };
+
+    ghost doubt = { λ _. [] };
 }
 
 impl Table for SortedTable {

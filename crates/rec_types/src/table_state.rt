@@ -34,4 +34,7 @@ pub trait TableState {
 
     /// By that: the commits that are kept beside the table, each as its lines; none where none are.
     ghost commits: { Source → List (List (List ℕ)) };
+
+    /// By that: the text of the commit that is in doubt beside the table, or nothing.
+    ghost doubt: { Source → List ℕ };
 }

@@ -1,5 +1,5 @@
 -- The run of one call, from what its contract says.
-use Rattle.std.proofs.Common.{◌≡◌, Bool, false, [], ◌∷◌, ℕ, List, Option, None, Result, refl, sym, ap, subst}
+use Rattle.std.proofs.Common.{◌≡◌, Bool, false, [], ◌∷◌, ℕ, List, Option, Some, None, Result, IfSome, if◌then◌else◌, refl, sym, ap, subst}
 use Rattle.rec_types.specs.Table.{counted}
 use Rattle.rec_types.specs.declared.table_state.TableState.{Ghosts}
 use Rattle.record_file.specs.Asked.{Asked, Asks, UndoAsks}
@@ -9,10 +9,25 @@ use Rattle.command_text.specs.declared.command.Command.{Command}
 use Rattle.command_text.specs.Grammar.{Read}
 use Rattle.recfile.specs.Run.{CommandRan, CommandTold, SameOrigin}
 use Rattle.record_file.specs.Abstract.{OpenFile, Tells}
-use Rattle.record_file.specs.Runs.{Called, Seen, Step, Run, Answers, IsKeptSeen, cause_in, seen, seen_as}
+use Rattle.record_file.specs.Runs.{Called, Seen, Step, Run, Answers, IsKeptSeen, cause_in, seen, seen_as, undoubted}
+use Rattle.record_file.specs.Seen.{doubt_of}
+use Rattle.record_file.specs.declared.refusal.Refusal.{Refusal}
 use Rattle.record_file.specs.Outside.{NeverDamaged}
-use Rattle.record_file.proofs.CallStepLemmas.{names_none}
+use Rattle.record_file.proofs.CallStepLemmas.{names_none, same_but_file}
 use Rattle.record_file.proofs.LogGrowthLemmas.{tells_none}
+
+-- what is seen besides the commit in doubt, where the table and the log stay
+pub file_undoubted : {T : Type 0} (t : Ghosts T) (old new : OpenFile T) → new.table ≡ old.table → new.log ≡ old.log → (logged : Bool) → undoubted (seen_as logged t new) ≡ record (undoubted (seen_as logged t old)) { file = new.file }
+file_undoubted t old new table log logged = ap undoubted (same_but_file t old new table log logged)
+
+-- where a refusal leaves all
+pub refused_undoubted : {T : Type 0} (t : Ghosts T) (logged : Bool) (old new : OpenFile T) (first told : Option Refusal) → IfSome first (λ refusal. (told ≡ Some refusal) × (new ≡ old)) → IfSome first (λ refusal. (told ≡ Some refusal) × (undoubted (seen_as logged t new) ≡ undoubted (seen_as logged t old)))
+refused_undoubted t logged old new None told is = is
+refused_undoubted t logged old new (Some refusal) told is = (is.0, ap (λ (f : OpenFile _). undoubted (seen_as logged t f)) is.1)
+
+-- the commit in doubt stays where what the table was made of does
+pub same_doubt : {T : Type 0} (logged : Bool) (t : Ghosts T) (old new : T) → t.sound new ≡ t.sound old → t.origin new ≡ t.origin old → doubt_of logged t new ≡ doubt_of logged t old
+same_doubt logged t old new sound origin i = if logged then (if sound i then t.doubt (origin i) else []) else []
 
 -- a call that asks the table nothing
 pub quiet_step : (old new : Seen) (called : Called) → cause_in called ≡ None → IsKeptSeen old → IsKeptSeen new → new ≡ record old { file = new.file } → Answers old called false false new → Step old (record { called = called; failed = false; refused = false }) new
@@ -40,14 +55,17 @@ asks old new called failed refused failures refusals sound logged commits told u
 
 -- what a call asks of its table doesn't depend on whether commits are kept
 module _ {T : Type 0} (t : Ghosts T) (logged : Bool) (old new : OpenFile T) (cause : Option Cause) where
-  pub asks_as : (may : Asked → Type 0) → Asks may (seen t old) cause (seen t new) → Asks may (seen_as logged t old) cause (seen_as logged t new)
+  pub asks_as : (may : Asked → Type 0) → Asks may (seen t old) cause (seen t new) → Asks may (undoubted (seen_as logged t old)) cause (undoubted (seen_as logged t new))
   asks_as may told = record { asked = told.asked; allowed = told.allowed; calls = told.calls; lost = told.lost }
 
-  pub undo_as : UndoAsks (seen t old) cause (seen t new) → UndoAsks (seen_as logged t old) cause (seen_as logged t new)
+  pub undo_as : UndoAsks (seen t old) cause (seen t new) → UndoAsks (undoubted (seen_as logged t old)) cause (undoubted (seen_as logged t new))
   undo_as told = record { more = told.more; no_room = told.no_room; grown = told.grown; sets = told.sets; gets = told.gets; lists = told.lists; no_rooms = told.no_rooms; lost = told.lost }
 
+  undo_seen : UndoAsks (seen t old) cause (seen t new) → UndoAsks (seen_as logged t old) cause (seen_as logged t new)
+  undo_seen told = record { more = told.more; no_room = told.no_room; grown = told.grown; sets = told.sets; gets = told.gets; lists = told.lists; no_rooms = told.no_rooms; lost = told.lost }
+
   pub ending_as : ending.Asks (seen t old) cause (seen t new) → ending.Asks (seen_as logged t old) cause (seen_as logged t new)
-  ending_as told = record { failures = told.failures; refusals = told.refusals; damages = told.damages; sound = told.sound; told = told.told; opening = told.opening; caused = told.caused; asked = undo_as told.asked }
+  ending_as told = record { failures = told.failures; refusals = told.refusals; damages = told.damages; sound = told.sound; told = told.told; opening = told.opening; caused = told.caused; asked = undo_seen told.asked }
 
 -- of a command that leaves what its table was made of
 pub ran_of : {T E : Type 0} (t : Ghosts T) (logged : Bool) (moves : T → T → Type 0) → ((a b : T) → t.origin b ≡ t.origin a → moves a b) → (old new : OpenFile T) (entry : Read Command) (made : Result Bool E) (text : List ℕ) → CommandTold t (SameOrigin t) old entry made text new → CommandRan t logged moves old entry made text new

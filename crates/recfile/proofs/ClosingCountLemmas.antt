@@ -34,6 +34,16 @@ unrefused state kept failed refusals failures guard is none all =
     let zero_is : refusals ≡ 0 = sym (refusals_in state kept refusals) ∙ ap refusals_of is ∙ none in
     ap (failures_with failed) (sym zero_is) ∙ all
 
+-- a store in which nothing is kept aside and no call was refused
+pub unused_guard : (state : SealState) (kept : List Bool) (refusals : ℕ) → state ≡ states.Unsealed → refusals ≡ 0 → guard_of state kept refusals ≡ Unsealed 0
+unused_guard state kept refusals state_is none = λ i. guard_of (state_is i) kept (none i)
+
+-- a call of it that refuses none is counted by its disk
+pub disk_counts : (state later : SealState) (kept marks : List Bool) (failed refusals now more : ℕ) (device : Bool) → guard_of state kept refusals ≡ Unsealed 0 → guard_of later marks more ≡ guard_of state kept refusals → failures_with now more ≡ counted (failures_with failed refusals) device → now ≡ counted failed device
+disk_counts state later kept marks failed refusals now more device unused same counts =
+    unrefused later marks now more (counted (failures_with failed refusals) device) (Unsealed 0) (same ∙ unused) refl counts
+    ∙ ap (λ n. counted n device) (sym (unrefused state kept failed refusals (failures_with failed refusals) (Unsealed 0) unused refl refl))
+
 -- where nothing is kept aside, the state says so
 pub unsealed : (state : SealState) (kept : List Bool) (refusals : ℕ) (guard : Guard) → guard_of state kept refusals ≡ guard → is_sealed guard ≡ false → state ≡ states.Sealed → ⊥
 unsealed state kept refusals guard is not_sealed same = absurd (cc (sym not_sealed ∙ ap is_sealed (sym is) ∙ ap (λ (s : SealState). is_sealed (guard_of s kept refusals)) same))

@@ -1,5 +1,5 @@
 -- What an opening finds after a stop of a session whose commits are kept before they are answered.
-use Rattle.std.proofs.Common.{◌≡◌, ◌≢◌, ◌⊎◌, ⊎_elim, inl, inr, ℕ, ◌≤◌, Bool, true, false, cond, not, ◌&&◌, List, [], ◌∷◌, ◌++◌, length, Option, None, IsTrue, refl, sym, ap, subst, ◌∙◌, arith}
+use Rattle.std.proofs.Common.{◌≡◌, ◌≢◌, ◌⊎◌, ⊎_elim, inl, inr, ℕ, ◌≤◌, Bool, true, false, cond, not, ◌&&◌, List, [], ◌∷◌, ◌++◌, length, Option, None, IsTrue, append_assoc, refl, sym, ap, subst, ◌∙◌, arith}
 use Rattle.std.specs.FinMap as maps
 use Rattle.std.proofs.lemmas.List.{append-nil}
 use Rattle.std.proofs.lemmas.List.Elements.{All-append, All-nil}
@@ -19,14 +19,14 @@ use Rattle.command_text.specs.Units.{Write, unit_commands, unit_lines}
 use Rattle.command_text.specs.declared.command.Command.{Command}
 use Rattle.record_file.specs.Abstract.{File, charged_of, new_file}
 use Rattle.record_file.specs.Durable.{CommitsKept, committed, ended, overlay}
-use Rattle.record_file.specs.Runs.{Event, Seen}
+use Rattle.record_file.specs.Runs.{Event, Seen, undoubted}
 use Rattle.record_file.proofs.CommitLemmas.{start_commits}
 use Rattle.recfile.specs.Beside.{FindsEach, FindsSome, FindsWhole, LeavesEnded, LeavesOpening, LosesNone}
-use Rattle.recfile.specs.DurableSession.{FindsCommits, FindsEachCommit, IsBegunBeside, IsFrontOrMore, LeavesUnread}
+use Rattle.recfile.specs.DurableSession.{FindsCommits, FindsEachCommit, AreFirstCommits, IsBegunBeside, LeavesUnread}
 use Rattle.page_journal.specs.Crash.{StandsFor}
 use Rattle.recfile.specs.Ending.{rest_of}
 use Rattle.recfile.specs.Kept.{file_of}
-use Rattle.recfile.specs.LogKeeping.{DoubtSays}
+use Rattle.recfile.specs.Run.{SaysWrites}
 use Rattle.recfile.specs.LogOver.{Finds, FindsLog, HoldsRecords, IsLogOver, head_line, said_by}
 use Rattle.recfile.specs.Overlaid.{IsLogCommand, SayWrites, writes_in_turn}
 use Rattle.recfile.proofs.LogLemmas.{log_writes, unit_logged}
@@ -123,6 +123,10 @@ text_some : (unit : List (List ℕ)) → IsUnit unit → unit_text unit ≡ [] �
 text_some unit is none =
     absurd (cc (sym (read_back unit is) ∙ ap (λ (t : List ℕ). units_of ((t ++ []) ++ [])) none))
 
+-- a text in doubt, and the commit that it is of, if there is one
+abbrev pub DoubtIs : List ℕ → List (List Write) → Type 0
+DoubtIs text doubted = ((text ≡ []) × (doubted ≡ [])) ⊎ ((es : List Write) × (doubted ≡ es ∷ []) × SaysWrites es text)
+
 module _ (order : ℕ) (contents : Contents) (file : PageFile) (holds : HoldsRecords order contents file) where
   -- a log of units that say some commits stands beside the file
   says_finds : (c : Files) (us : Units) (kept : List (List Write)) → Belongs c × (recovered c ≡ file) → SayWrites us kept → Says ((head_line file ∷ []) ∷ us) c → Finds order (overlay contents (writes_in_turn kept)) c
@@ -143,45 +147,45 @@ module _ (order : ℕ) (contents : Contents) (file : PageFile) (holds : HoldsRec
     log = subst (λ (l : Option (List ℕ)). FindsLog (head_line (recovered c)) contents contents l) (sym none) refl;
   }
 
-  first_finds : (c : Files) (units : Units) (kept : List (List Write)) → Belongs c × (recovered c ≡ file) → SayWrites units kept → SaysFirst ((head_line file ∷ []) ∷ units) c → FindsCommits order contents kept c
-  first_finds c units kept stands say says = ⊎_elim
-      (λ none. ([], inl (kept, refl), none_finds c stands none))
+  first_finds : (c : Files) (units : Units) (kept doubted : List (List Write)) → Belongs c × (recovered c ≡ file) → SayWrites units kept → SaysFirst ((head_line file ∷ []) ∷ units) c → FindsCommits order contents kept doubted c
+  first_finds c units kept doubted stands say says = ⊎_elim
+      (λ none. ([], (kept ++ doubted, refl), none_finds c stands none))
       (λ some. at some.0 some.1 some.2 some.3)
       says
     where
-      at : (first : Units) → AreFirst first ((head_line file ∷ []) ∷ units) → (first ≡ [] → ⊥) → Says first c → FindsCommits order contents kept c
+      at : (first : Units) → AreFirst first ((head_line file ∷ []) ∷ units) → (first ≡ [] → ⊥) → Says first c → FindsCommits order contents kept doubted c
       at [] front begun found = absurd (begun refl)
       at (u ∷ us) front begun found =
           let head : u ≡ head_line file ∷ [] = sym (ap (first_unit_of []) front.1) in
           let units_are : units ≡ us ++ front.0 = ap rest_units front.1 in
           let split = say_split us front.0 kept (subst (λ (ks : Units). SayWrites ks kept) units_are say) in (
             split.0,
-            inl (split.1, split.2),
+            (split.1 ++ doubted, ap (λ (ks : List (List Write)). ks ++ doubted) split.2 ∙ append_assoc split.0 split.1 doubted),
             says_finds c us split.0 stands split.3 (subst (λ (h : List (List ℕ)). Says (h ∷ us) c) head found),
           )
 
-  doubt_finds : (c : Files) (units : Units) (kept : List (List Write)) (doubt : List ℕ) → Belongs c × (recovered c ≡ file) → SayWrites units kept → DoubtSays [] doubt → SaysDoubt ((head_line file ∷ []) ∷ units) doubt c → FindsCommits order contents kept c
-  doubt_finds c units kept doubt stands say (inl none) says = absurd (text_some says.0 says.1 (sym says.2 ∙ none))
-  doubt_finds c units kept doubt stands say (inr some) says =
-      let same : says.0 ≡ unit_lines some.0 some.1 = unit_is says.0 (unit_lines some.0 some.1) says.1 some.3 (sym says.2 ∙ some.2) in (
-        kept ++ some.1 ∷ [],
-        inr (some.1, refl),
-        says_finds c (units ++ says.0 ∷ []) (kept ++ some.1 ∷ []) stands (say_more units kept some.0 some.1 says.0 (ap entries_in same ∙ some.4) say) says.3,
+  doubt_finds : (c : Files) (units : Units) (kept doubted : List (List Write)) (doubt : List ℕ) → Belongs c × (recovered c ≡ file) → SayWrites units kept → DoubtIs doubt doubted → SaysDoubt ((head_line file ∷ []) ∷ units) doubt c → FindsCommits order contents kept doubted c
+  doubt_finds c units kept doubted doubt stands say (inl none) says = absurd (text_some says.0 says.1 (sym says.2 ∙ none.0))
+  doubt_finds c units kept doubted doubt stands say (inr some) says =
+      let same : says.0 ≡ unit_lines some.2.0 some.0 = unit_is says.0 (unit_lines some.2.0 some.0) says.1 some.2.2 (sym says.2 ∙ some.2.1) in (
+        kept ++ some.0 ∷ [],
+        ([], ap (λ (ks : List (List Write)). kept ++ ks) some.1 ∙ sym (append-nil (kept ++ some.0 ∷ []))),
+        says_finds c (units ++ says.0 ∷ []) (kept ++ some.0 ∷ []) stands (say_more units kept some.2.0 some.0 says.0 (ap entries_in same ∙ some.2.3) say) says.3,
       )
 
   -- the file as it was opened, with what is found of its log
-  pub opening_finds : (opening : Opening) (c : Files) (units : Units) (kept : List (List Write)) → file_of opening ≡ file → opening.logged ≡ true → opening.commits ≡ (head_line file ∷ []) ∷ units → DoubtSays [] opening.doubt → SayWrites units kept → LeavesOpening opening c → FindsCommits order contents kept c
-  opening_finds opening c units kept is logged commits doubt say left =
+  pub opening_finds : (opening : Opening) (c : Files) (units : Units) (kept doubted : List (List Write)) → file_of opening ≡ file → opening.logged ≡ true → opening.commits ≡ (head_line file ∷ []) ∷ units → DoubtIs opening.doubt doubted → SayWrites units kept → LeavesOpening opening c → FindsCommits order contents kept doubted c
+  opening_finds opening c units kept doubted is logged commits doubt say left =
       let stands : Belongs c × (recovered c ≡ file) = (left.0.0, left.0.1 ∙ is) in
       let found = subst (λ (us : Units). SaysFirst us c ⊎ SaysDoubt us opening.doubt c) commits (subst (λ b. FindsSome b opening.log opening.commits opening.doubt c) logged left.1) in
-      ⊎_elim (first_finds c units kept stands say) (doubt_finds c units kept opening.doubt stands say doubt) found
+      ⊎_elim (first_finds c units kept doubted stands say) (doubt_finds c units kept doubted opening.doubt stands say doubt) found
 
   -- and the closed file, with the log or without
-  pub ended_finds_all : (opening : Opening) (c : Files) (units : Units) (kept : List (List Write)) (records : Contents) → records ≡ overlay contents (writes_in_turn kept) → file_of opening ≡ file → opening.logged ≡ true → opening.commits ≡ (head_line file ∷ []) ∷ units → DoubtSays [] opening.doubt → SayWrites units kept → LeavesEnded opening order records c → FindsCommits order contents kept c
-  ended_finds_all opening c units kept records made is logged commits doubt say left = ⊎_elim
+  pub ended_finds_all : (opening : Opening) (c : Files) (units : Units) (kept doubted : List (List Write)) (records : Contents) → records ≡ overlay contents (writes_in_turn kept) → file_of opening ≡ file → opening.logged ≡ true → opening.commits ≡ (head_line file ∷ []) ∷ units → DoubtIs opening.doubt doubted → SayWrites units kept → LeavesEnded opening order records c → FindsCommits order contents kept doubted c
+  ended_finds_all opening c units kept doubted records made is logged commits doubt say left = ⊎_elim
       (λ either.
       ⊎_elim
-      (opening_finds opening c units kept is logged commits doubt say)
+      (opening_finds opening c units kept doubted is logged commits doubt say)
       (λ closed.
       let says = subst (λ (us : Units). Says us c) commits (subst (λ b. FindsWhole b opening.log opening.commits c) logged closed.2) in
       whole (record {
@@ -202,33 +206,33 @@ module _ (order : ℕ) (contents : Contents) (file : PageFile) (holds : HoldsRec
       }))
       left
     where
-      whole : Finds order records c → FindsCommits order contents kept c
-      whole finds = (kept, inl ([], sym (append-nil kept)), subst (λ (m : Contents). Finds order m c) made finds)
+      whole : Finds order records c → FindsCommits order contents kept doubted c
+      whole finds = (kept, (doubted, refl), subst (λ (m : Contents). Finds order m c) made finds)
 
   -- all commits, where none is lost
-  all_finds : (c : Files) (units : Units) (kept : List (List Write)) (doubt : List ℕ) → Belongs c × (recovered c ≡ file) → SayWrites units kept → DoubtSays [] doubt → SaysAll ((head_line file ∷ []) ∷ units) doubt c → FindsEachCommit order contents kept c
-  all_finds c units kept doubt stands say doubted says = ⊎_elim
+  all_finds : (c : Files) (units : Units) (kept doubted : List (List Write)) (doubt : List ℕ) → Belongs c × (recovered c ≡ file) → SayWrites units kept → DoubtIs doubt doubted → SaysAll ((head_line file ∷ []) ∷ units) doubt c → FindsEachCommit order contents kept doubted c
+  all_finds c units kept doubted doubt stands say is says = ⊎_elim
       (λ all. (kept, inl refl, says_finds c units kept stands say all))
-      (λ more. at doubted more)
+      (λ more. at is more)
       says
     where
-      at : DoubtSays [] doubt → SaysDoubt ((head_line file ∷ []) ∷ units) doubt c → FindsEachCommit order contents kept c
-      at (inl none) more = absurd (text_some more.0 more.1 (sym more.2 ∙ none))
+      at : DoubtIs doubt doubted → SaysDoubt ((head_line file ∷ []) ∷ units) doubt c → FindsEachCommit order contents kept doubted c
+      at (inl none) more = absurd (text_some more.0 more.1 (sym more.2 ∙ none.0))
       at (inr some) more =
-          let same : more.0 ≡ unit_lines some.0 some.1 = unit_is more.0 (unit_lines some.0 some.1) more.1 some.3 (sym more.2 ∙ some.2) in (
-            kept ++ some.1 ∷ [],
-            inr (some.1, refl),
-            says_finds c (units ++ more.0 ∷ []) (kept ++ some.1 ∷ []) stands (say_more units kept some.0 some.1 more.0 (ap entries_in same ∙ some.4) say) more.3,
+          let same : more.0 ≡ unit_lines some.2.0 some.0 = unit_is more.0 (unit_lines some.2.0 some.0) more.1 some.2.2 (sym more.2 ∙ some.2.1) in (
+            kept ++ some.0 ∷ [],
+            inr (ap (λ (ks : List (List Write)). kept ++ ks) (sym some.1)),
+            says_finds c (units ++ more.0 ∷ []) (kept ++ some.0 ∷ []) stands (say_more units kept some.2.0 some.0 more.0 (ap entries_in same ∙ some.2.3) say) more.3,
           )
 
   -- of the file as it was opened, and of the closed file
-  pub each_finds : (opening : Opening) (c : Files) (units : Units) (kept : List (List Write)) (records : Contents) → records ≡ overlay contents (writes_in_turn kept) → file_of opening ≡ file → opening.logged ≡ true → opening.commits ≡ (head_line file ∷ []) ∷ units → DoubtSays [] opening.doubt → SayWrites units kept → LeavesEnded opening order records c → LosesNone opening order records c → FindsEachCommit order contents kept c
-  each_finds opening c units kept records made is logged commits doubt say left loses = ⊎_elim
+  pub each_finds : (opening : Opening) (c : Files) (units : Units) (kept doubted : List (List Write)) (records : Contents) → records ≡ overlay contents (writes_in_turn kept) → file_of opening ≡ file → opening.logged ≡ true → opening.commits ≡ (head_line file ∷ []) ∷ units → DoubtIs opening.doubt doubted → SayWrites units kept → LeavesEnded opening order records c → LosesNone opening order records c → FindsEachCommit order contents kept doubted c
+  each_finds opening c units kept doubted records made is logged commits doubt say left loses = ⊎_elim
       (λ either.
       ⊎_elim
       (λ opened.
       ⊎_elim
-      (λ each. all_finds c units kept opening.doubt (opened.0.0, opened.0.1 ∙ is) say doubt (subst (λ (us : Units). SaysAll us opening.doubt c) commits (subst (λ b. FindsEach b opening.log opening.commits opening.doubt c) logged each)))
+      (λ each. all_finds c units kept doubted opening.doubt (opened.0.0, opened.0.1 ∙ is) say doubt (subst (λ (us : Units). SaysAll us opening.doubt c) commits (subst (λ b. FindsEach b opening.log opening.commits opening.doubt c) logged each)))
       (λ gone. bare gone)
       loses)
       (λ closed.
@@ -245,10 +249,10 @@ module _ (order : ℕ) (contents : Contents) (file : PageFile) (holds : HoldsRec
       bare
       left
     where
-      whole : Finds order records c → FindsEachCommit order contents kept c
+      whole : Finds order records c → FindsEachCommit order contents kept doubted c
       whole finds = (kept, inl refl, subst (λ (m : Contents). Finds order m c) made finds)
 
-      bare : Belongs c × HoldsRecords order records (recovered c) × (c.commits.log ≡ None) → FindsEachCommit order contents kept c
+      bare : Belongs c × HoldsRecords order records (recovered c) × (c.commits.log ≡ None) → FindsEachCommit order contents kept doubted c
       bare gone = whole (record {
         belongs = gone.0;
         under = records;
@@ -257,23 +261,18 @@ module _ (order : ℕ) (contents : Contents) (file : PageFile) (holds : HoldsRec
       })
 
 -- examples, and what is none
-pub some_first : (a b : List Write) → IsFrontOrMore (a ∷ []) (a ∷ b ∷ [])
-some_first a b = inl (b ∷ [], refl)
-
-pub one_more : (a b : List Write) → IsFrontOrMore (a ∷ b ∷ []) (a ∷ [])
-one_more a b = inr (b, refl)
+pub some_first : (a b : List Write) → AreFirstCommits (a ∷ []) (a ∷ b ∷ [])
+some_first a b = (b ∷ [], refl)
 
 abbrev first_kept : List Write → List (List Write) → List Write
 first_kept d [] = d
 first_kept d (es ∷ kept) = es
 
-pub earlier_lost : (a b : List Write) → ◌≢◌ a b → IsFrontOrMore (b ∷ []) (a ∷ b ∷ []) → ⊥
-earlier_lost a b other (inl front) = other (ap (first_kept []) front.1)
-earlier_lost a b other (inr more) = absurd (omega (arith, ap length more.1))
+pub earlier_lost : (a b : List Write) → ◌≢◌ a b → AreFirstCommits (b ∷ []) (a ∷ b ∷ []) → ⊥
+earlier_lost a b other front = other (ap (first_kept []) front.1)
 
-pub two_more : (a b : List Write) → IsFrontOrMore (a ∷ b ∷ []) [] → ⊥
-two_more a b (inl front) = absurd (cc front.1)
-two_more a b (inr more) = absurd (omega (arith, ap length more.1))
+pub one_more : (a b : List Write) → AreFirstCommits (a ∷ b ∷ []) (a ∷ []) → ⊥
+one_more a b front = absurd (omega (arith, ap length front.1))
 
 -- of a log in which no commit is yet
 only_head : (head : List (List ℕ)) (first : Units) → AreFirst first (head ∷ []) → (first ≡ [] → ⊥) → first ≡ head ∷ []

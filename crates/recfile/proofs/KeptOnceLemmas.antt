@@ -32,7 +32,10 @@ use Rattle.page_journal.specs.History.{History, MayLeave}
 use Rattle.page_journal.specs.Steps.{TornAt}
 use Rattle.page_journal.specs.declared.disk_call.DiskCall.TheVariants.{Write}
 use Rattle.page_journal.specs.contracts.mem_disk.MemDiskDiskState.TheImpl.{ghosts}
+use Rattle.commit_paper.specs.Text.{units_of}
 use Rattle.recfile.specs.Kept.{HasRecords, IsKept, LeavesEither, ClosesSafely}
+use Rattle.recfile.specs.LogOver.{Finds, FindsLog, HoldsRecords, head_line}
+use Rattle.recfile.proofs.LogOverLemmas.{over_once}
 
 -- the first son is one
 first_son : (tree : Stands) (sons : List ℕ) (els es : List Element) (us : List ℕ) → Fan tree sons els es us → (xs : List Element) × (here : List ℕ) × tree (get_or sons 0 0) xs here
@@ -77,8 +80,8 @@ one_node layout k pages small p n m is again =
 none_in_page_0 : (layout : Layout) (k : ℕ) (stored : List (List ℕ)) (n : Node) → SpellsIn layout k (in_file stored) 0 n → ⊥
 none_in_page_0 layout k stored n is = absurd (cc is.page)
 
-pub one_list : (stored : List (List ℕ)) (tail : ℕ) (t r : Tree) (records others : Contents) → IsClosed 2 stored tail t records → IsClosed 2 stored tail r others → records ≡ others
-one_list stored tail t r records others closed again =
+pub one_list : (v w : ℕ) (stored : List (List ℕ)) (tail : ℕ) (t r : Tree) (records others : Contents) → IsClosed v stored tail t records → IsClosed w stored tail r others → records ≡ others
+one_list v w stored tail t r records others closed again =
     let pages = in_file stored in
     let header = one_header stored closed.h again.h closed.clean.begins.header again.clean.begins.header in
     let there = subst (λ (h : Header). HasTree pages h r again.es again.us) (sym header) again.clean.there in
@@ -96,11 +99,34 @@ one_list stored tail t r records others closed again =
     ∙ held_in layout pages r again.es again.us (omega (arith, small, order)) there.holds)
     ∙ again.records
 
+-- of either version, in trees of any orders
+pub held_once : (order later : ℕ) (records others : Contents) (file : PageFile) → HoldsRecords order records file → HoldsRecords later others file → records ≡ others
+held_once order later records others file held again =
+    one_list held.0 again.0 file.pages file.tail held.1 again.1 records others held.3 again.3
+
+pub one_order : (order later : ℕ) (records others : Contents) (file : PageFile) → HoldsRecords order records file → HoldsRecords later others file → order ≡ later
+one_order order later records others file held again =
+    sym held.2 ∙ held.3.clean.there.order ∙ ap (λ (h : Header). h.order) (one_header file.pages held.3.h again.3.h held.3.clean.begins.header again.3.clean.begins.header) ∙ sym again.3.clean.there.order ∙ again.2
+
+-- what an opening finds in files is one list, too
+log_once : (head : List ℕ) (under a b : Contents) (log : Option (List ℕ)) → FindsLog head under a log → FindsLog head under b log → a ≡ b
+log_once head under a b None finds again = finds ∙ sym again
+log_once head under a b (Some bytes) finds again = over_once head under a b (units_of bytes) finds again
+
+pub finds_once : (order later : ℕ) (records others : Contents) (c : Files) → Finds order records c → Finds later others c → records ≡ others
+finds_once order later records others c finds again =
+    log_once (head_line (recovered c)) finds.under records others c.commits.log finds.log
+    (subst (λ (m : Contents). FindsLog (head_line (recovered c)) m others c.commits.log)
+    (sym (held_once order later finds.under again.under (recovered c) finds.holds again.holds)) again.log)
+
+pub finds_order : (order later : ℕ) (records others : Contents) (c : Files) → Finds order records c → Finds later others c → order ≡ later
+finds_order order later records others c finds again = one_order order later finds.under again.under (recovered c) finds.holds again.holds
+
 -- a disk is kept with one list of records
 pub kept_with_others : (disk : History) (order later : ℕ) (records others : Contents) → IsKept ghosts order records disk → records ≢ others → IsKept ghosts later others disk → ⊥
 kept_with_others disk order later records others kept differ again =
     let main = (ghosts.seen disk).main in
-    differ (one_list main.pages main.tail kept.has.0 again.has.0 records others kept.has.2 again.has.2)
+    differ (one_list 2 2 main.pages main.tail kept.has.0 again.has.0 records others kept.has.2 again.has.2)
 
 set_first : (pages : List (List ℕ)) (page : List ℕ) → 1 ≤ length (slice_set pages 0 page) → slice_get (slice_set pages 0 page) 0 ≡ Some page
 set_first [] page some = absurd (omega (arith, some))
@@ -153,4 +179,4 @@ pub closed_unwritten : (first : Files) (failures order later : ℕ) (records oth
 closed_unwritten first failures order later records others had differ safe =
     let kept = safe.kept refl in
     let was = subst (HasRecords order records) (ap (λ (s : Option Kept). recovered_by s first.main) kept.settled.no_side) had in
-    differ (one_list first.main.pages first.main.tail was.0 kept.has.0 records others was.2 kept.has.2)
+    differ (one_list 2 2 first.main.pages first.main.tail was.0 kept.has.0 records others was.2 kept.has.2)

@@ -25,7 +25,9 @@ pub mod LogLemmas
 pub mod LogOverLemmas
 pub mod SettlingLemmas
 pub mod OverlayFaultLemmas
+pub mod SettledOnceLemmas
 pub mod SessionCommitLemmas
 pub mod DurableLemmas
 pub mod DurableRunLemmas
+pub mod DurableExampleLemmas
 pub mod HeadLemmas

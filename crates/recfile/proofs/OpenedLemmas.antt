@@ -23,7 +23,7 @@ use Rattle.recfile.specs.WholeSession.{IsUncounted, opened_file}
 
 -- what a table in a tree shows
 abbrev pub treed : Ghosts TableView
-treed = record { contents = table_contents; record_limit = λ t. t.limit; sound = λ t. t.pages.steady; device_failures = λ t. t.pages.failures; memory_refusals = λ t. t.refusals; damages = λ t. t.damages; calls = λ t. t.calls; Source = Origin; origin = origin_of; commits = λ o. o.opening.commits }
+treed = record { contents = table_contents; record_limit = λ t. t.limit; sound = λ t. t.pages.steady; device_failures = λ t. t.pages.failures; memory_refusals = λ t. t.refusals; damages = λ t. t.damages; calls = λ t. t.calls; Source = Origin; origin = origin_of; commits = λ o. o.opening.commits; doubt = λ o. o.opening.doubt }
 
 -- what a run sees of a new file over the table of a page file
 pub fresh : (f : OpenFile TableView) (table : TableView) (limits : Bounds) → f ≡ record { table = table; file = new_file (table_contents table) limits; log = [] }
@@ -41,12 +41,13 @@ fresh f table limits is steady uncounted =
       calls = uncounted.2 i;
       logged = false;
       commits = [];
+      doubt = [];
     })
 
 -- and of one beside which a log was begun
 pub fresh_logged : (f : OpenFile TableView) (table : TableView) (limits : Bounds) (commits : List (List (List ℕ))) → f ≡ record { table = table; file = new_file (table_contents table) limits; log = [] }
-    → IsTrue table.pages.steady → IsUncounted table → table.pages.opening.commits ≡ commits → seen_as true treed f ≡ logged_file (table_contents table) limits table.pages.failures commits
-fresh_logged f table limits commits is steady uncounted logged =
+    → IsTrue table.pages.steady → IsUncounted table → table.pages.opening.commits ≡ commits → table.pages.opening.doubt ≡ [] → seen_as true treed f ≡ logged_file (table_contents table) limits table.pages.failures commits
+fresh_logged f table limits commits is steady uncounted logged undoubted =
     ap (seen_as true treed) is
     ∙ (λ i. record {
       file = new_file (table_contents table) limits;
@@ -59,6 +60,7 @@ fresh_logged f table limits commits is steady uncounted logged =
       calls = uncounted.2 i;
       logged = true;
       commits = if steady i then logged i else [];
+      doubt = if steady i then undoubted i else [];
     })
 
 -- it is new, with these limits

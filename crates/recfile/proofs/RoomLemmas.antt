@@ -21,7 +21,7 @@ use Rattle.tx_log.specs.declared.phase.BeginFault.{BeginFault}
 use Rattle.tx_log.specs.declared.phase.BeginFault.TheVariants as begin_faults
 use Rattle.tx_log.specs.declared.phase.Phase.TheVariants.{Active}
 use Rattle.record_file.specs.Abstract.{File, held_by, is_full, new_file, phase_at, use_of, with_change}
-use Rattle.record_file.specs.Runs.{Answers, Begin, Called, Commit, Put, Seen}
+use Rattle.record_file.specs.Runs.{Answers, Begin, Called, Commit, Put, Seen, undoubted}
 use Rattle.record_file.specs.Steps.{active_refusal, held_refusal, key_refusal}
 use Rattle.record_file.specs.Refusals.{commit_refusal}
 use Rattle.record_file.specs.declared.refusal.Refusal.TheVariants as refusals
@@ -133,6 +133,13 @@ record Loading (limits : Bounds) (es : Records) (s : Seen) : Type 0 where
   few : charges es ≤ length es
   sound : IsTrue s.sound
   failures : s.failures < greatest_count
+
+-- whatever is in doubt
+cleared : (limits : Bounds) (es : Records) (s : Seen) → Loading limits es s → Loading limits es (undoubted s)
+cleared limits es s is = record { file = is.file; few = is.few; sound = is.sound; failures = is.failures }
+
+uncleared : (limits : Bounds) (es : Records) (s : Seen) → Loading limits es (undoubted s) → Loading limits es s
+uncleared limits es s is = record { file = is.file; few = is.few; sound = is.sound; failures = is.failures }
 
 -- which call a reply tells of
 begin_told : (logged : Bool) → (answer : Reply) (calls : List Called) → ScriptTellsOf logged (Ok command.Begin) answer calls → (told : Result TxId BeginFault) × (answer ≡ reply.Begin told) × (calls ≡ Begin told ∷ [])
@@ -254,19 +261,19 @@ rest_accepted limits done [] count old new (answer ∷ next ∷ replies) room fi
 rest_accepted limits done [] count old new (answer ∷ []) room fits before ran kept =
     let step = ran.1 in
     let told = commit_told old.logged answer (map (λ e. e.called) step.events) (All-head (λ r. was_kept r ≡ false) answer [] kept) step.told in
-    let one = one_step old ran.0 step.events (Commit (tx 1) told.0) told.2 step.ran in
-    let known = subst (λ (called : Called). Answers old called one.0.failed one.0.refused ran.0) one.1 one.2.answer in
-    All-cons (λ r. is_refusal r ≡ false) answer [] (ap is_refusal told.1 ∙ commit_done limits done old ran.0 told.0 one.0.failed one.0.refused before known) (All-nil (λ r. is_refusal r ≡ false))
+    let one = one_step (undoubted old) (undoubted ran.0) step.events (Commit (tx 1) told.0) told.2 step.ran in
+    let known = subst (λ (called : Called). Answers (undoubted old) called one.0.failed one.0.refused (undoubted ran.0)) one.1 one.2.answer in
+    All-cons (λ r. is_refusal r ≡ false) answer [] (ap is_refusal told.1 ∙ commit_done limits done (undoubted old) (undoubted ran.0) told.0 one.0.failed one.0.refused (cleared limits done old before) known) (All-nil (λ r. is_refusal r ≡ false))
 rest_accepted limits done (e ∷ es) count old new [] room fits before ran kept = absurd ran
 rest_accepted limits done (e ∷ es) count old new (answer ∷ replies) room fits before ran kept =
     let step = ran.1 in
     let told = put_told old.logged e answer (map (λ e. e.called) step.events) step.told in
-    let one = one_step old ran.0 step.events (Put (tx 1) e.0 e.1 told.0) told.2 step.ran in
-    let known = subst (λ (called : Called). Answers old called one.0.failed one.0.refused ran.0) one.1 one.2.answer in
+    let one = one_step (undoubted old) (undoubted ran.0) step.events (Put (tx 1) e.0 e.1 told.0) told.2 step.ran in
+    let known = subst (λ (called : Called). Answers (undoubted old) called one.0.failed one.0.refused (undoubted ran.0)) one.1 one.2.answer in
     let unkept = sym (ap was_kept told.1) ∙ All-head (λ r. was_kept r ≡ false) answer replies kept in
-    let put = put_done limits done e old ran.0 told.0 one.0.failed one.0.refused before (omega (arith, room.log, fits)) (omega (arith, room.records, fits)) unkept one.2.failures one.2.sound known in
+    let put = put_done limits done e (undoubted old) (undoubted ran.0) told.0 one.0.failed one.0.refused (cleared limits done old before) (omega (arith, room.log, fits)) (omega (arith, room.records, fits)) unkept one.2.failures one.2.sound known in
     All-cons (λ r. is_refusal r ≡ false) answer replies (ap is_refusal told.1 ∙ put.accepted)
-    (rest_accepted limits (done ++ e ∷ []) es count ran.0 new replies room (omega (arith, fits, length-append done (e ∷ []))) put.loaded ran.2 (All-tail (λ r. was_kept r ≡ false) answer replies kept))
+    (rest_accepted limits (done ++ e ∷ []) es count ran.0 new replies room (omega (arith, fits, length-append done (e ∷ []))) (uncleared limits (done ++ e ∷ []) ran.0 put.loaded) ran.2 (All-tail (λ r. was_kept r ≡ false) answer replies kept))
 
 -- the transaction begins
 record BeginDone (limits : Bounds) (answer : Result TxId BeginFault) (new : Seen) : Type 0 where
@@ -302,12 +309,12 @@ all_accepted limits es old new [] is sound few room ran kept = absurd ran
 all_accepted limits es old new (answer ∷ replies) is sound few room ran kept =
     let step = ran.1 in
     let told = begin_told old.logged answer (map (λ e. e.called) step.events) step.told in
-    let one = one_step old ran.0 step.events (Begin told.0) told.2 step.ran in
-    let known = subst (λ (called : Called). Answers old called one.0.failed one.0.refused ran.0) one.1 one.2.answer in
+    let one = one_step (undoubted old) (undoubted ran.0) step.events (Begin told.0) told.2 step.ran in
+    let known = subst (λ (called : Called). Answers (undoubted old) called one.0.failed one.0.refused (undoubted ran.0)) one.1 one.2.answer in
     let unkept = sym (ap was_kept told.1) ∙ All-head (λ r. was_kept r ≡ false) answer replies kept in
-    let begun = begin_done limits old ran.0 told.0 one.0.failed one.0.refused is sound few room.begins unkept one.2.failures one.2.sound known in
+    let begun = begin_done limits (undoubted old) (undoubted ran.0) told.0 one.0.failed one.0.refused is sound few room.begins unkept one.2.failures one.2.sound known in
     All-cons (λ r. is_refusal r ≡ false) answer replies (ap is_refusal told.1 ∙ begun.accepted)
-    (rest_accepted limits [] es (length es) ran.0 new replies room (omega arith) begun.loaded ran.2 (All-tail (λ r. was_kept r ≡ false) answer replies kept))
+    (rest_accepted limits [] es (length es) ran.0 new replies room (omega arith) (uncleared limits [] ran.0 begun.loaded) ran.2 (All-tail (λ r. was_kept r ≡ false) answer replies kept))
 
 -- a dump that is run over a new file with room for it has no refusal
 pub dump_accepted : (limits : Bounds) (old new : Seen) (records : Contents) (replies : List Reply) → old.file ≡ new_file maps.empty limits → IsTrue old.sound → old.failures < greatest_count → All CanBePut (maps.entries records)

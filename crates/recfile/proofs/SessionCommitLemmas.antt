@@ -1,5 +1,5 @@
 -- What a session keeps of its commits, where they are kept before they are answered.
-use Rattle.std.proofs.Common.{◌≡◌, ℕ, Bool, true, false, ◌||◌, List, [], ◌∷◌, ◌++◌, map, Option, Result, Ok, Err, IsTrue, refl, sym, ap, subst, ◌∙◌, append_assoc}
+use Rattle.std.proofs.Common.{◌≡◌, ◌⊎◌, ⊎_elim, inl, inr, ℕ, Bool, true, false, ◌||◌, List, [], ◌∷◌, ◌++◌, map, Option, Result, Ok, Err, IsTrue, refl, sym, ap, subst, ◌∙◌, append_assoc}
 use Rattle.std.proofs.lemmas.Bool.{false≢true}
 use Rattle.std.proofs.lemmas.List.{append-nil}
 use Rattle.std.proofs.lemmas.List.Concat.{flat_map-append}
@@ -10,15 +10,16 @@ use Rattle.command_text.specs.declared.command.Command.{Command}
 use Rattle.command_text.specs.declared.command.Command.TheVariants as command
 use Rattle.command_text.specs.declared.reply.Reply.{Reply}
 use Rattle.command_text.specs.declared.reply.Reply.TheVariants as reply
+use Rattle.command_text.specs.declared.reply.Unkept.TheVariants as unkept
 use Rattle.command_text.specs.Grammar.{Read}
 use Rattle.command_text.specs.Units.{Write, unit_lines}
 use Rattle.record_file.specs.Durable.{CommitsKept, Keeps, overlay}
 use Rattle.record_file.specs.Runs as calls
-use Rattle.record_file.specs.Runs.{Called, Commit, Event, Seen, Run, is_commit}
+use Rattle.record_file.specs.Runs.{Called, Commit, Event, Seen, Run, is_commit, undoubted}
 use Rattle.record_file.proofs.CommitLemmas.{writes-replay}
 use Rattle.recfile.specs.Overlaid.{SayWrites, writes_in_turn}
-use Rattle.recfile.specs.Run.{AddsIf, AddsWrites, HasReply, is_accepted}
-use Rattle.recfile.specs.SessionCommits.{MakesCommits}
+use Rattle.recfile.specs.Run.{AddsIf, AddsWrites, HasReply, TellsDoubt, is_accepted}
+use Rattle.recfile.specs.SessionCommits.{IsInDoubt, MakesCommits}
 use Rattle.recfile.specs.WholeSession.{RanAs}
 use Rattle.recfile.specs.declared.manner.Manner.{Manner}
 use Rattle.recfile.specs.declared.script.RunFault.{RunFault}
@@ -44,7 +45,36 @@ kept_append old mid new (e ∷ es) fs kept later first second = (
 )
 
 pub made_none : (s : Seen) → MakesCommits s s
-made_none s = record { kept = []; units = []; commits = sym (append-nil s.commits); says = tt; events = []; ran = (refl, refl); sound = refl; logged = refl }
+made_none s = record { kept = []; units = []; commits = sym (append-nil s.commits); says = tt; events = []; ran = (refl, refl); sound = refl; logged = refl; doubted = inl refl }
+
+-- a run whose commits are kept is a run
+kept_run : (old new : Seen) (es : List Event) (kept : List Write) → CommitsKept old es new kept → Run old es new
+kept_run old new [] kept ran = ran.0
+kept_run old new (e ∷ es) kept ran = (ran.0, ran.1, kept_run ran.0 new es ran.3 ran.6)
+
+run_append : (old mid new : Seen) (es fs : List Event) → Run old es mid → Run mid fs new → Run old (es ++ fs) new
+run_append old mid new [] fs first second = subst (λ (s : Seen). Run s fs new) first second
+run_append old mid new (e ∷ es) fs first second = (first.0, first.1, run_append first.0 mid new es fs first.2 second)
+
+-- what came into doubt in the second of two runs, or in the first
+doubted_on : (a b c : Seen) → MakesCommits a b → MakesCommits b c → (c.doubt ≡ a.doubt) ⊎ ((es : List Write) × IsInDoubt a c.doubt es)
+doubted_on a b c first second = at first.doubted second.doubted
+  where
+    at : (b.doubt ≡ a.doubt) ⊎ ((es : List Write) × IsInDoubt a b.doubt es) → (c.doubt ≡ b.doubt) ⊎ ((es : List Write) × IsInDoubt b c.doubt es) → (c.doubt ≡ a.doubt) ⊎ ((es : List Write) × IsInDoubt a c.doubt es)
+    at (inl was) (inl stays) = inl (stays ∙ was)
+    at (inr some) (inl stays) = inr (some.0, subst (λ (d : List ℕ). IsInDoubt a d some.0) (sym stays) some.1)
+    at was (inr some) = inr (
+      some.0,
+      record {
+        mid = some.1.mid;
+        events = first.events ++ some.1.events;
+        ran = run_append (undoubted a) (undoubted b) (undoubted some.1.mid) first.events some.1.events (kept_run (undoubted a) (undoubted b) first.events (writes_in_turn first.kept) first.ran) some.1.ran;
+        tx = some.1.tx;
+        accepted = some.1.accepted;
+        written = some.1.written;
+        says = some.1.says;
+      },
+    )
 
 pub made_on : (a b c : Seen) → MakesCommits a b → MakesCommits b c → MakesCommits a c
 made_on a b c first second = record {
@@ -53,9 +83,10 @@ made_on a b c first second = record {
   commits = second.commits ∙ ap (λ (us : List (List (List ℕ))). us ++ second.units) first.commits ∙ append_assoc a.commits first.units second.units;
   says = say_append first.units second.units first.kept second.kept first.says second.says;
   events = first.events ++ second.events;
-  ran = subst (λ (ws : List Write). CommitsKept a (first.events ++ second.events) c ws) (sym (flat_map-append (λ es. es) first.kept second.kept)) (kept_append a b c first.events second.events (writes_in_turn first.kept) (writes_in_turn second.kept) first.ran second.ran);
+  ran = subst (λ (ws : List Write). CommitsKept (undoubted a) (first.events ++ second.events) (undoubted c) ws) (sym (flat_map-append (λ es. es) first.kept second.kept)) (kept_append (undoubted a) (undoubted b) (undoubted c) first.events second.events (writes_in_turn first.kept) (writes_in_turn second.kept) first.ran second.ran);
   sound = second.sound ∙ first.sound;
   logged = second.logged ∙ first.logged;
+  doubted = doubted_on a b c first second;
 }
 
 -- events of which none is an accepted commit
@@ -142,8 +173,8 @@ accepted (Ok command.Log) answer is = absurd (false≢true is)
 accepted (Err fault) answer is = absurd (false≢true is)
 
 -- what one commit keeps
-commit_made : (old new : Seen) (t : TxId) (ws : List Write) (e : Event) → e.called ≡ Commit t (Ok tt) → Run old (e ∷ []) new → ws ≡ writes (own t.0 old.file.history) → AddsWrites old.commits ws new.commits → MakesCommits old new
-commit_made old new t [] e called ran is adds = record {
+commit_made : (old new : Seen) (t : TxId) (ws : List Write) (e : Event) → e.called ≡ Commit t (Ok tt) → Run (undoubted old) (e ∷ []) (undoubted new) → new.doubt ≡ old.doubt → ws ≡ writes (own t.0 old.file.history) → AddsWrites old.commits ws new.commits → MakesCommits old new
+commit_made old new t [] e called ran undoubts is adds = record {
   kept = [];
   units = [];
   commits = adds ∙ sym (append-nil old.commits);
@@ -152,8 +183,9 @@ commit_made old new t [] e called ran is adds = record {
   ran = (ran.0, ran.1, [], [], refl, subst (λ (c : Called). Keeps old.file c []) (sym called) (λ m. ap (overlay m) is ∙ writes-replay m (own t.0 old.file.history)), (ran.2, refl));
   sound = ap (λ (s : Seen). s.sound) ran.2 ∙ ran.1.sound;
   logged = ap (λ (s : Seen). s.logged) ran.2 ∙ ran.1.logged;
+  doubted = inl undoubts;
 }
-commit_made old new t (w ∷ ws) e called ran is adds = record {
+commit_made old new t (w ∷ ws) e called ran undoubts is adds = record {
   kept = (w ∷ ws) ∷ [];
   units = unit_lines adds.0 (w ∷ ws) ∷ [];
   commits = adds.1;
@@ -162,6 +194,7 @@ commit_made old new t (w ∷ ws) e called ran is adds = record {
   ran = (ran.0, ran.1, w ∷ ws, [], refl, subst (λ (c : Called). Keeps old.file c (w ∷ ws)) (sym called) (λ m. ap (overlay m) is ∙ writes-replay m (own t.0 old.file.history)), (ran.2, refl));
   sound = ap (λ (s : Seen). s.sound) ran.2 ∙ ran.1.sound;
   logged = ap (λ (s : Seen). s.logged) ran.2 ∙ ran.1.logged;
+  doubted = inl undoubts;
 }
 
 -- the one event of an accepted commit
@@ -176,7 +209,45 @@ adds_where logged old ws new is adds = subst (λ b. AddsIf b old ws new) is adds
 accepted_made : (old new : Seen) (t : TxId) → HasReply old (Ok (command.Commit t)) (reply.Commit (Ok tt)) new → IsTrue old.sound → IsTrue old.logged → MakesCommits old new
 accepted_made old new t has sound logged =
     let one = one_event has.events (Commit t (Ok tt)) has.told in
-    commit_made old new t (writes (own t.0 old.file.history)) one.0 one.2 (subst (λ (es : List Event). Run old es new) one.1 has.ran) refl (adds_where old.logged old.commits (writes (own t.0 old.file.history)) new.commits logged (has.kept sound))
+    commit_made old new t (writes (own t.0 old.file.history)) one.0 one.2 (subst (λ (es : List Event). Run (undoubted old) es (undoubted new)) one.1 has.ran) has.doubt refl (adds_where old.logged old.commits (writes (own t.0 old.file.history)) new.commits logged (has.kept sound))
+
+-- what the reply to a command leaves in doubt
+reply_doubts : (old new : Seen) (entry : Read Command) (answer : Reply) → TellsDoubt old entry answer new → (new.doubt ≡ old.doubt) ⊎ ((es : List Write) × IsInDoubt old new.doubt es)
+reply_doubts old new (Ok (command.Commit t)) (reply.Unkept unkept.Doubt) told = ⊎_elim
+    (λ stays. inl stays)
+    (λ some. inr (writes (own t.0 old.file.history), record { mid = old; events = []; ran = refl; tx = t.0; accepted = some.0; written = refl; says = some.1 }))
+    told
+reply_doubts old new (Ok (command.Commit t)) (reply.Commit a0) told = inl told
+reply_doubts old new (Ok (command.Commit t)) (reply.Begin a0) told = inl told
+reply_doubts old new (Ok (command.Commit t)) (reply.Put a0) told = inl told
+reply_doubts old new (Ok (command.Commit t)) (reply.Claim a0) told = inl told
+reply_doubts old new (Ok (command.Commit t)) (reply.Del a0) told = inl told
+reply_doubts old new (Ok (command.Commit t)) (reply.Get a0) told = inl told
+reply_doubts old new (Ok (command.Commit t)) (reply.Save a0) told = inl told
+reply_doubts old new (Ok (command.Commit t)) (reply.Release a0) told = inl told
+reply_doubts old new (Ok (command.Commit t)) (reply.Back a0) told = inl told
+reply_doubts old new (Ok (command.Commit t)) (reply.Resume a0) told = inl told
+reply_doubts old new (Ok (command.Commit t)) (reply.Abort a0) told = inl told
+reply_doubts old new (Ok (command.Commit t)) (reply.List a0) told = inl told
+reply_doubts old new (Ok (command.Commit t)) (reply.Keys a0) told = inl told
+reply_doubts old new (Ok (command.Commit t)) (reply.Log a0 a1) told = inl told
+reply_doubts old new (Ok (command.Commit t)) (reply.Unkept unkept.Memory) told = inl told
+reply_doubts old new (Ok (command.Commit t)) (reply.Unkept unkept.Device) told = inl told
+reply_doubts old new (Ok (command.Commit t)) (reply.Bad a0) told = inl told
+reply_doubts old new (Ok command.Begin) answer told = inl told
+reply_doubts old new (Ok (command.Put a0 a1 a2)) answer told = inl told
+reply_doubts old new (Ok (command.Claim a0 a1)) answer told = inl told
+reply_doubts old new (Ok (command.Del a0 a1)) answer told = inl told
+reply_doubts old new (Ok (command.Get a0 a1)) answer told = inl told
+reply_doubts old new (Ok (command.Save a0)) answer told = inl told
+reply_doubts old new (Ok (command.Release a0 a1)) answer told = inl told
+reply_doubts old new (Ok (command.Back a0 a1)) answer told = inl told
+reply_doubts old new (Ok (command.Resume a0)) answer told = inl told
+reply_doubts old new (Ok (command.Abort a0)) answer told = inl told
+reply_doubts old new (Ok command.List) answer told = inl told
+reply_doubts old new (Ok (command.Keys a0)) answer told = inl told
+reply_doubts old new (Ok command.Log) answer told = inl told
+reply_doubts old new (Err fault) answer told = inl told
 
 -- what the reply to a command keeps
 pub reply_made : (old new : Seen) (entry : Read Command) (answer : Reply) → HasReply old entry answer new → IsTrue old.sound → IsTrue old.logged → MakesCommits old new
@@ -187,7 +258,7 @@ reply_made old new entry answer has sound logged = at (is_accepted entry answer)
         let known = accepted entry answer is in
         accepted_made old new known.0 (subst (λ (r : Reply). HasReply old (Ok (command.Commit known.0)) r new) known.2 (subst (λ (c : Read Command). HasReply old c answer new) known.1 has)) sound logged
     at false is =
-        let quiet = quiet_made old new has.events has.ran (has.alone is) in
+        let quiet = quiet_made (undoubted old) (undoubted new) has.events has.ran (has.alone is) in
         record {
           kept = [];
           units = [];
@@ -197,6 +268,7 @@ reply_made old new entry answer has sound logged = at (is_accepted entry answer)
           ran = quiet.0;
           sound = quiet.2;
           logged = quiet.3;
+          doubted = reply_doubts old new entry answer has.doubt;
         }
 
 -- and so a session, whatever its manner

@@ -17,12 +17,17 @@ use Rattle.page_journal.specs.declared.recovery_fault.RecoveryFault.{RecoveryFau
 use Rattle.page_journal.specs.declared.recovery_fault.RecoveryFault.TheVariants as recovering
 use Rattle.page_store.specs.declared.store_fault.StoreFault.{StoreFault}
 use Rattle.page_store.specs.declared.store_fault.StoreFault.TheVariants as stores
-use Rattle.recfile.specs.FileFaults.{fault_of_recovery, fault_of_store}
+use Rattle.btree_delete.specs.CleanFile.{IsOutside}
+use Rattle.btree_delete.specs.declared.opening.open_fault.OpenFault.{OpenFault}
+use Rattle.btree_delete.specs.declared.opening.open_fault.OpenFault.TheVariants as checks
+use Rattle.recfile.specs.Dumped.{IsFirstOrOutside, IsOutsideFile}
+use Rattle.recfile.specs.FileFaults.{fault_of_opening, fault_of_recovery, fault_of_store}
 use Rattle.recfile.specs.declared.file_fault.FileFault.{FileFault}
 use Rattle.recfile.specs.declared.file_fault.FileFault.TheVariants as faults
 use Rattle.page_journal.specs.declared.seal_state.SealState.{SealState}
 use Rattle.page_journal.specs.declared.seal_state.SealState.TheVariants as states
 use Rattle.recfile.specs.DurableSession.{LeavesUnread}
+use Rattle.recfile.specs.Settling.{FindsAny, IsUnsettledOver}
 use Rattle.recfile.specs.Kept.{file_of, is_sealed, refusals_of}
 use Rattle.recfile.proofs.ClosingCountLemmas.{is_stopped}
 use Rattle.recfile.specs.LogOver.{Finds, FindsLog, HoldsRecords, IsLogOver, head_line}
@@ -210,6 +215,17 @@ still_unlogged old log commits doubt same none = (ap (λ (o : Opening). file_of 
 pub head_settles : (fault : FileFault) (order : ℕ) (records : Contents) (file : PageFile) → HoldsRecords order records file → IsHeadFault file.pages file.tail fault → IsSettlingFault fault
 head_settles fault order records file holds why = ⊎_elim (λ outside. inl outside) (λ length. absurd (length.1 holds.3.clean.begins.long)) why
 
+-- a file that is none by its length has that as its first fault
+pub head_first : (pages : List (List ℕ)) (tail limit : ℕ) (fault : FileFault) → IsHeadFault pages tail fault → IsFirstOrOutside pages tail limit fault
+head_first pages tail limit fault why = ⊎_elim (λ outside. inl outside) (λ length. inr (checks.BadLength, length.1, length.0)) why
+
+-- one that is closed isn't opened by a fault from outside alone
+pub opening_settles : (fault : OpenFault) (named : FileFault) → named ≡ fault_of_opening fault → IsOutside fault → IsSettlingFault named
+opening_settles fault named is outside = inl (⊎_elim
+    (λ device. inl (is ∙ ap fault_of_opening device))
+    (λ memory. inr (is ∙ ap fault_of_opening memory))
+    outside)
+
 -- why a disk isn't opened whose files belong together
 pub recovery_settles : (files : Files) (fault : RecoveryFault) (named : FileFault) → named ≡ fault_of_recovery fault → Belongs files → (fault ≡ recovering.BadJournal → IsForeign files) → IsSettlingFault named
 recovery_settles files recovering.Device named is belongs foreign = inl (inl is)
@@ -219,18 +235,18 @@ pub recovery_commits : (fault : RecoveryFault) (named : FileFault) → named ≡
 recovery_commits recovering.Device named is bad = absurd (cc (sym is ∙ bad))
 recovery_commits recovering.BadJournal named is bad = absurd (cc (sym is ∙ bad))
 
-pub recovery_journal : (fault : RecoveryFault) (named : FileFault) → named ≡ fault_of_recovery fault → named ≡ faults.BadJournal → fault ≡ recovering.BadJournal
-recovery_journal recovering.Device named is bad = absurd (cc (sym is ∙ bad))
-recovery_journal recovering.BadJournal named is bad = refl
-
 -- the faults of a store are from outside
-pub store_settles : (fault : StoreFault) (named : FileFault) → named ≡ fault_of_store fault → IsSettlingFault named
-store_settles stores.Failed named is = inl (inl is)
-store_settles stores.Memory named is = inl (inr is)
+pub store_outside : (fault : StoreFault) (named : FileFault) → named ≡ fault_of_store fault → IsOutsideFile named
+store_outside stores.Failed named is = inl is
+store_outside stores.Memory named is = inr is
 
-pub store_commits : (fault : StoreFault) (named : FileFault) → named ≡ fault_of_store fault → (named ≡ faults.BadCommits → ⊥) × (named ≡ faults.BadJournal → ⊥)
-store_commits stores.Failed named is = (λ bad. absurd (cc (sym is ∙ bad)), λ bad. absurd (cc (sym is ∙ bad)))
-store_commits stores.Memory named is = (λ bad. absurd (cc (sym is ∙ bad)), λ bad. absurd (cc (sym is ∙ bad)))
+pub store_commits : (fault : StoreFault) (named : FileFault) → named ≡ fault_of_store fault → named ≡ faults.BadCommits → ⊥
+store_commits stores.Failed named is bad = absurd (cc (sym is ∙ bad))
+store_commits stores.Memory named is bad = absurd (cc (sym is ∙ bad))
+
+-- why a file with a log beside it isn't put right, and where records are found
+abbrev pub IsStop : Files → FileFault → Type 0
+IsStop files fault = IsUnsettledOver files fault × (FindsAny files → IsSettlingFault fault)
 
 pub only_err : {A E : Type 0} {a b : E} → ◌≡◌ {A = Result A E} (Err a) (Err b) → a ≡ b
 only_err {A} {E} {a} {b} is = ap fault_in is

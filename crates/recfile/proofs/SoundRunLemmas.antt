@@ -1,6 +1,6 @@
 -- What each reply of a session keeps, the session keeps, whatever its manner.
 use Rattle.std.proofs.Common.{◌≡◌, ℕ, Bool, List, [], ◌∷◌, Option, Some, None, Result, Ok, Err, inl, inr, refl, sym, ap, subst, ◌∙◌}
-use Rattle.record_file.specs.Runs.{Event, Seen, Run}
+use Rattle.record_file.specs.Runs.{Event, Seen, Run, undoubted}
 use Rattle.command_text.specs.declared.command.Command.{Command}
 use Rattle.command_text.specs.declared.reply.Reply.{Reply}
 use Rattle.command_text.specs.Grammar.{Read, line_of}
@@ -76,4 +76,4 @@ sound_run old new (e ∷ es) ran = sound_run ran.0 new es ran.2 ∙ ran.1.sound
 
 pub sound_ran : (manner : Manner) (answer : Result ℕ RunFault) (left leaves held holds : Option (List ℕ)) (old new : Seen) → RanAs manner left leaves held holds old new answer → new.sound ≡ old.sound
 sound_ran manner answer left leaves held holds old new ran =
-    over_ran (λ a b. b.sound ≡ a.sound) (λ s. refl) (λ a b c first second. second ∙ first) (λ a b entry answer has. sound_run a b has.events has.ran) manner answer left leaves held holds old new ran
+    over_ran (λ a b. b.sound ≡ a.sound) (λ s. refl) (λ a b c first second. second ∙ first) (λ a b entry answer has. sound_run (undoubted a) (undoubted b) has.events has.ran) manner answer left leaves held holds old new ran

@@ -1,6 +1,7 @@
 -- What a crash leaves of a page file and of the log of commits beside it.
-use Rattle.std.specs.Prelude.{◌≡◌, ◌⊎◌, ℕ, Bool, true, false, List, Option, None, Result, OnOk}
+use Rattle.std.specs.Prelude.{◌≡◌, ◌⊎◌, ℕ, Bool, true, false, List, Option, None, Result}
 use Rattle.rec_types.specs.Contents.{Contents}
+use Rattle.rec_types.specs.Table.{counted}
 use Rattle.page_store.specs.Opening.{Opening}
 use Rattle.page_journal.specs.Files.{Files, Belongs, recovered}
 use Rattle.page_journal.specs.Crash.{IsSettled, StandsFor}
@@ -9,6 +10,7 @@ use Rattle.page_journal.specs.LoggedStores.{SaysAll, SaysDoubt, SaysFirst}
 use Rattle.page_journal.specs.declared.disk_state.DiskState.{Ghosts}
 use Rattle.btree_delete.specs.CleanFile.{HasLength}
 use Rattle.recfile.specs.Dumped.{IsOutsideFile}
+use Rattle.recfile.specs.FileFaults.{is_device_answer}
 use Rattle.recfile.specs.Kept.{file_of}
 use Rattle.recfile.specs.LogOver.{HoldsRecords}
 use Rattle.rec_types.specs.declared.table_state.TableState.{Ghosts as TableGhosts}
@@ -17,7 +19,7 @@ use Rattle.rec_types.specs.declared.table.TableFault.TheVariants as tables
 use Rattle.recfile.specs.declared.overlaying.OverlayFault.{OverlayFault}
 use Rattle.recfile.specs.declared.overlaying.OverlayFault.TheVariants as overlaying
 use Rattle.recfile.specs.declared.file_fault.FileFault.{FileFault}
-use Rattle.recfile.specs.declared.file_fault.FileFault.TheVariants.{BadLength, TooManyRecords}
+use Rattle.recfile.specs.declared.file_fault.FileFault.TheVariants.{BadCommits, BadLength, TooManyRecords}
 
 -- Of the log that stood there, where none was begun since: it is there as it was. Else some commits from the first on, or all and the one that is in doubt.
 abbrev pub FindsSome : Bool → Option (List ℕ) → List (List (List ℕ)) → List ℕ → Files → Type 0
@@ -68,20 +70,25 @@ pub record IsSettledWith {D : Type 0} (g : Ghosts D) (order : ℕ) (records : Co
 abbrev pub IsSettlingFault : FileFault → Type 0
 IsSettlingFault fault = IsOutsideFile fault ⊎ (fault ≡ TooManyRecords)
 
+-- or that the log isn't one that is put over it
+abbrev pub IsUnput : Type 0 → FileFault → Type 0
+IsUnput Over fault = IsSettlingFault fault ⊎ ((fault ≡ BadCommits) × (Over → ⊥))
+
 -- and over a sound table
 abbrev pub IsTableOutside : TableFault → Type 0
 IsTableOutside fault = (fault ≡ tables.Device) ⊎ (fault ≡ tables.Memory)
 
-abbrev pub IsOverlayFault : OverlayFault → Type 0
-IsOverlayFault overlaying.Line = ⊥
-IsOverlayFault (overlaying.Table fault) = IsTableOutside fault ⊎ (fault ≡ tables.NoRoom)
+-- Line only where what is put over it isn't Logged
+abbrev pub IsOverlayFault : Type 0 → OverlayFault → Type 0
+IsOverlayFault Logged overlaying.Line = Logged → ⊥
+IsOverlayFault Logged (overlaying.Table fault) = IsTableOutside fault ⊎ (fault ≡ tables.NoRoom)
 
 -- why no first line of a log is made: a fault from outside, or a file that is none by its length
 abbrev pub IsHeadFault : List (List ℕ) → ℕ → FileFault → Type 0
 IsHeadFault pages tail fault = IsOutsideFile fault ⊎ ((fault ≡ BadLength) × (HasLength pages tail → ⊥))
 
--- a table was made of the same, and at Ok its device hasn't failed
-pub record StaysTable {T A E : Type 0} (t : TableGhosts T) (old : T) (answer : Result A E) (new : T) : Type 0 where
+-- a table was made of the same, and its device has failed once more where that is the fault
+pub record StaysTable {T A : Type 0} (t : TableGhosts T) (old : T) (answer : Result A FileFault) (new : T) : Type 0 where
   pub sound : t.sound new ≡ t.sound old
   pub origin : t.origin new ≡ t.origin old
-  pub failures : OnOk answer (t.device_failures new ≡ t.device_failures old)
+  pub failures : t.device_failures new ≡ counted (t.device_failures old) (is_device_answer answer)

@@ -15,7 +15,7 @@ use Rattle.recfile.specs.Beside.{IsSettledWith, LeavesOpening}
 use Rattle.recfile.specs.Kept.{file_of}
 use Rattle.recfile.specs.LogOver.{Finds, head_line}
 use Rattle.recfile.specs.Overlaid.{writes_in_turn}
-use Rattle.recfile.specs.SessionCommits.{MakesCommits}
+use Rattle.recfile.specs.SessionCommits.{MakesCommits, in_doubt}
 use Rattle.recfile.specs.Streams.{CallsMade}
 use Rattle.recfile.specs.WholeSession.{RunsFile, opened_file}
 use Rattle.recfile.specs.declared.file_fault.FileFault.{FileFault}
@@ -47,18 +47,18 @@ LeavesUnbegun old c = StandsFor (recovered old) c × SaysNoneOr ((head_line (rec
 abbrev pub StandsUnbegun : Files → Files → Type 0
 StandsUnbegun old c = StandsAs old c × SaysNoneOr ((head_line (recovered old) ∷ []) ∷ []) c
 
--- some of these commits, from the first on, or all and one more
-abbrev pub IsFrontOrMore : List (List Write) → List (List Write) → Type 0
-IsFrontOrMore first kept = ((rest : List (List Write)) × (kept ≡ first ++ rest)) ⊎ ((es : List Write) × (first ≡ kept ++ es ∷ []))
+-- some of these commits, from the first on
+abbrev pub AreFirstCommits : List (List Write) → List (List Write) → Type 0
+AreFirstCommits first all = (rest : List (List Write)) × (all ≡ first ++ rest)
 
--- an opening finds what some of these commits, or all and one more, make of these records, in the order of the commits
-abbrev pub FindsCommits : ℕ → Contents → List (List Write) → Files → Type 0
-FindsCommits order contents kept c = (first : List (List Write)) × IsFrontOrMore first kept × Finds order (overlay contents (writes_in_turn first)) c
+-- an opening finds what some of these commits make of these records, from the first on, in their order; the one in doubt comes last
+abbrev pub FindsCommits : ℕ → Contents → List (List Write) → List (List Write) → Files → Type 0
+FindsCommits order contents kept doubted c = (first : List (List Write)) × AreFirstCommits first (kept ++ doubted) × Finds order (overlay contents (writes_in_turn first)) c
 
--- it finds what all of them make, or all and one more
-abbrev pub FindsEachCommit : ℕ → Contents → List (List Write) → Files → Type 0
-FindsEachCommit order contents kept c =
-    (all : List (List Write)) × ((all ≡ kept) ⊎ ((es : List Write) × (all ≡ kept ++ es ∷ []))) × Finds order (overlay contents (writes_in_turn all)) c
+-- it finds what all of them make, with the one in doubt or without it
+abbrev pub FindsEachCommit : ℕ → Contents → List (List Write) → List (List Write) → Files → Type 0
+FindsEachCommit order contents kept doubted c =
+    (all : List (List Write)) × ((all ≡ kept) ⊎ (all ≡ kept ++ doubted)) × Finds order (overlay contents (writes_in_turn all)) c
 
 -- A session over a file with these records, in a tree of this order, whose commits are kept before they are answered; then the file was closed and the log taken away, or a fault stopped that. A crash at any moment since the log was begun leaves what some of the commits make, from the first on, or all and the one that is in doubt; at the end it leaves what all make, whatever failed, and after the closing the file has that by itself.
 pub record EndsDurably {D : Type 0} (g : Ghosts D) (manner : Manner) (left leaves held holds : Option (List ℕ)) (before after : CallsMade)
@@ -66,6 +66,6 @@ pub record EndsDurably {D : Type 0} (g : Ghosts D) (manner : Manner) (left leave
   pub run : RunsFile manner left leaves held holds before after (logged_file contents limits failures commits) unclosed status
   pub made : MakesCommits (logged_file contents limits failures commits) run.mid
   pub records : OnOk run.ended (run.new.records ≡ overlay contents (writes_in_turn made.kept))
-  pub any_moment : (c : Files) → g.left_since disk 0 c → FindsCommits order contents made.kept c
-  pub lasts : (c : Files) → g.may_leave disk c → FindsEachCommit order contents made.kept c
+  pub any_moment : (c : Files) → g.left_since disk 0 c → FindsCommits order contents made.kept (in_doubt made.doubted) c
+  pub lasts : (c : Files) → g.may_leave disk c → FindsEachCommit order contents made.kept (in_doubt made.doubted) c
   pub closed : OnOk run.ended (unclosed ≡ None → IsSettledWith g order (overlay contents (writes_in_turn made.kept)) disk)

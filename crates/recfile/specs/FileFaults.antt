@@ -99,6 +99,10 @@ abbrev pub is_device_answer : {A : Type 0} → Result A FileFault → Bool
 is_device_answer (Ok x) = false
 is_device_answer (Err fault) = is_device fault
 
+abbrev pub is_device_overlay : {A : Type 0} → Result A OverlayFault → Bool
+is_device_overlay (Ok x) = false
+is_device_overlay (Err fault) = is_device (fault_of_overlay fault)
+
 -- Why no page file was made: the first check that fails has that name. Device and Memory come from outside, Memory
 -- once the file is being written.
 abbrev pub IsMakingFault : List (List ℕ) → ℕ → ℕ → FileFault → Type 0

@@ -18,7 +18,7 @@ use Rattle.record_texts.specs.declared.form.Form.{Form}
 use Rattle.recfile.specs.Dumped.{CanBeOpened, DumpStops, Dumps, IsDumpFault, IsFirstOrOutside, IsSilent, text_in}
 use Rattle.recfile.specs.DurableSession.{EndsDurably, RunsLogged, StandsUnbegun}
 use Rattle.recfile.specs.FileFaults.{IsMakingFault, fault_of_copying, is_device}
-use Rattle.recfile.specs.Kept.{ClosesSafely, IsOutsideDisk, IsUnopened, LeavesAs, LeavesOld, RunsOn}
+use Rattle.recfile.specs.Kept.{ClosesSafely, CountsClosing, IsOutsideDisk, IsUnopened, LeavesAs, LeavesOld, RunsOn}
 use Rattle.recfile.specs.LogOver.{HoldsWithin, head_line}
 use Rattle.recfile.specs.Settling.{SettlesAt}
 use Rattle.recfile.specs.StoreSession.{MakesIn}
@@ -65,10 +65,13 @@ pub record DurableSession {D : Type 0} (g : DiskGhosts D) (manner : Manner) (lim
     (left leaves held holds : Option (List ℕ)) (before after : CallsMade) (opened : D) (unopened unclosed : Option FileFault) (disk : D) (status : ℕ) : Type 0 where
   pub unread : IfSome unopened (λ _. (status ≡ 1) × (unclosed ≡ None) × (leaves ≡ left) × (holds ≡ held) × (after ≡ before))
   pub ran : unopened ≡ None → RunsLogged manner limits left leaves held holds before after unclosed status
+  -- once more where the log that was begun isn't taken away either
+  pub device : IfSome unopened (λ fault. CountsClosing (g.failures opened) true (is_device fault) (g.failures disk))
   pub own : IsTrue (g.steady opened) → unopened ≡ None → Belongs (g.began opened)
   pub closed : IsTrue (g.steady opened) → unopened ≡ None → CanBeOpened (recovered (g.began opened)).pages (recovered (g.began opened)).tail limits.records
   pub first : IsTrue (g.steady opened) → IfSome unopened (IsUnopened (g.began opened) limits.records)
   pub untouched : IsTrue (g.steady opened) → IfSome unopened (λ _. (c : Files) → g.left_since disk 0 c → StandsUnbegun (g.began opened) c)
+  pub stopped : IsTrue (g.steady opened) → status ≡ 4 → LeavesOld g (recovered (g.began opened)) disk
   pub session : IsTrue (g.steady opened) → (order : ℕ) → (contents : Contents) → HoldsWithin limits.records order contents (recovered (g.began opened))
       → MatchOption unopened (EndsDurably g manner left leaves held holds before after order contents limits (g.failures opened)
       ((head_line (recovered (g.began opened)) ∷ []) ∷ []) unclosed status disk) (IsOutsideDisk (g.began opened))

@@ -4,8 +4,10 @@ use Rattle.std.specs.List.{All, flat_map, list_any}
 use Rattle.std.specs.Io.KnownBytes.{Appends}
 use Rattle.rec_types.specs.declared.table_state.TableState.{Ghosts}
 use Rattle.record_file.specs.Abstract.{OpenFile}
+use Rattle.record_file.specs.Steps.{tx_refusal}
+use Rattle.commit_paper.specs.Text.{IsUnit, unit_text}
 use Rattle.tx_log.specs.Written.{own, writes}
-use Rattle.record_file.specs.Runs.{Called, Event, Seen, IsKeptSeen, is_commit, seen_as, Run, Begin, Put, Claim, Remove, Get, Savepoint, Release, RollbackTo, Abort, Resume, Commit, Entries, KeysOf, LogLen, LogUse}
+use Rattle.record_file.specs.Runs.{Called, Event, Seen, IsKeptSeen, is_commit, seen_as, undoubted, Run, Begin, Put, Claim, Remove, Get, Savepoint, Release, RollbackTo, Abort, Resume, Commit, Entries, KeysOf, LogLen, LogUse}
 use Rattle.command_text.specs.declared.command.Command.{Command}
 use Rattle.command_text.specs.declared.command.Command.TheVariants as command
 use Rattle.command_text.specs.declared.reply.Reply.{Reply}
@@ -64,6 +66,17 @@ TellsKept old (Ok (command.Commit t)) (reply.Commit (Ok done)) new =
     IsTrue old.sound → AddsIf old.logged old.commits (writes (own t.0 old.file.history)) new.commits
 TellsKept old entry answer new = Unit {0}
 
+-- a text of a log that makes these writes in a transaction of some number and commits it, and is read so
+abbrev pub SaysWrites : List (List ℕ × Option (List ℕ)) → List ℕ → Type 0
+SaysWrites es text = (n : ℕ) × (text ≡ unit_text (unit_lines n es)) × IsUnit (unit_lines n es) × (entries_in (unit_lines n es) ≡ unit_commands n es)
+
+-- A commit that would be accepted, and whose keeping is answered as in doubt, is the one in doubt from then on, unless another
+-- is already. No other reply changes which one that is.
+abbrev pub TellsDoubt : Seen → Read Command → Reply → Seen → Type 0
+TellsDoubt old (Ok (command.Commit t)) (reply.Unkept unkept.Doubt) new =
+    (new.doubt ≡ old.doubt) ⊎ ((tx_refusal old.file t.0 None ≡ None) × SaysWrites (writes (own t.0 old.file.history)) new.doubt)
+TellsDoubt old entry answer new = new.doubt ≡ old.doubt
+
 -- whether a command is a commit and its reply says that it was accepted: no other reply tells of an accepted commit
 abbrev pub is_accepted : Read Command → Reply → Bool
 is_accepted (Ok (command.Commit t)) (reply.Commit (Ok done)) = true
@@ -74,8 +87,9 @@ pub record HasReply (old : Seen) (entry : Read Command) (answer : Reply) (new : 
   pub events : List Event
   pub told : ScriptTellsOf old.logged entry answer (map (λ e. e.called) events)
   pub kept : TellsKept old entry answer new
+  pub doubt : TellsDoubt old entry answer new
   pub alone : is_accepted entry answer ≡ false → list_any (λ e. is_commit e.called) events ≡ false
-  pub ran : Run old events new
+  pub ran : Run (undoubted old) events (undoubted new)
 
 -- the same of what a line says; one that says nothing has no reply
 abbrev pub LineHasReply : Seen → Read (Option Command) → Reply → Seen → Type 0
@@ -105,9 +119,16 @@ abbrev pub TellsWritesOf : Bool → List (List (List ℕ)) → List (List ℕ ×
 TellsWritesOf sound old es (Ok done) new = IsTrue sound → AddsWrites old es new
 TellsWritesOf sound old es (Err fault) new = IsTrue sound → new ≡ old
 
+-- What is in doubt stays so; and only where the keeper answers Doubt it may be a script that makes these writes.
+abbrev pub DoubtsWrites : List ℕ → List (List ℕ × Option (List ℕ)) → Result (Unit {0}) KeeperFault → List ℕ → Type 0
+DoubtsWrites old es (Err keeper_faults.Doubt) new = (new ≡ old) ⊎ SaysWrites es new
+DoubtsWrites old es answer new = new ≡ old
+
 -- beside a table
 abbrev pub TellsWrites : {T : Type 0} → Ghosts T → T → List (List ℕ × Option (List ℕ)) → Result (Unit {0}) KeeperFault → T → Type 0
-TellsWrites t old es answer new = TellsWritesOf (t.sound old) (t.commits (t.origin old)) es answer (t.commits (t.origin new))
+TellsWrites t old es answer new =
+    TellsWritesOf (t.sound old) (t.commits (t.origin old)) es answer (t.commits (t.origin new))
+    × DoubtsWrites (t.doubt (t.origin old)) es answer (t.doubt (t.origin new))
 
 -- Over a file of which what stays true is true, a command has a reply, which is told. Of what the table was made of nothing
 -- changes but what may.

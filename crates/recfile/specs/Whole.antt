@@ -37,4 +37,5 @@ empty_file limits = record {
   calls = no_calls;
   logged = false;
   commits = [];
+  doubt = [];
 }

@@ -32,7 +32,7 @@ abbrev pub RanAs : Manner → Option (List ℕ) → Option (List ℕ) → Option
 RanAs manner left leaves held holds old new answer = RanBy manner.feed manner.strict left leaves held holds old new answer
 
 -- The lines, run in a manner, lead from a file to mid, with their answer; then every open transaction is ended, or one
--- was stopped, and no commit is kept. Where all are, the records are what the changes of the others leave.
+-- was stopped, and no commit is kept or comes into doubt. Where all are, the records are what the changes of the others leave.
 pub record IsSession (manner : Manner) (left leaves held holds : Option (List ℕ)) (old mid : Seen)
     (answer : Result ℕ RunFault) (ended : Result ℕ EndFault) (new : Seen) : Type 0 where
   pub script : RanAs manner left leaves held holds old mid answer
@@ -40,6 +40,7 @@ pub record IsSession (manner : Manner) (left leaves held holds : Option (List �
       (λ fault. StopsEnding mid.file fault new.file)
   pub asks : Asks mid (end_cause ended) new
   pub commits : new.commits ≡ mid.commits
+  pub doubt : new.doubt ≡ mid.doubt
   pub records : IsTrue mid.sound → OnOk ended
       (new.records ≡ replay mid.file.opening (rest_of (open_of mid.file) mid.file.history))
 
@@ -56,6 +57,7 @@ opened_file contents limits failures = record {
   calls = no_calls;
   logged = false;
   commits = [];
+  doubt = [];
 }
 
 -- the table has counted no fault and no call yet

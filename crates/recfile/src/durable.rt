@@ -1,11 +1,13 @@
-ghost use Rattle.std.specs.Prelude.{◌≡◌, ◌≤◌, ◌∷◌, [], ℕ, None, Some, false, is_some, IsTrue, IsSome, IfOk, IfErr, IfSome, MatchOption};
+ghost use Rattle.std.specs.Prelude.{◌≡◌, ◌≢◌, ◌≤◌, ◌∷◌, [], ℕ, Bool, None, Some, true, false, is_some, IsTrue, IsSome, IfOk, IfErr, IfSome, MatchOption};
 ghost use Rattle.rec_types.specs.Contents.{Contents};
+ghost use Rattle.rec_types.specs.Table.{counted};
 ghost use Rattle.btree_delete.specs.TableView.{table_contents};
 ghost use Rattle.page_journal.specs.Files.{Belongs, Files, recovered};
 ghost use Rattle.recfile.specs.Beside.{IsHeadFault, IsSettledWith, LeavesEnded, LeavesOpening, LosesNone};
 ghost use Rattle.recfile.specs.Dumped.{CanBeOpened, IsFirstOrOutside, IsOutsideFile};
 ghost use Rattle.recfile.specs.DurableSession.{EndsDurably, IsBegunBeside, LeavesUnbegun, LeavesUnread, RunsLogged, StandsUnbegun};
-ghost use Rattle.recfile.specs.Kept.{IsOutsideDisk, IsUnopened, file_of};
+ghost use Rattle.recfile.specs.FileFaults.{is_device};
+ghost use Rattle.recfile.specs.Kept.{CountsClosing, IsOutsideDisk, IsUnopened, LeavesOld, file_of};
 ghost use Rattle.recfile.specs.LogOver.{HoldsWithin, head_line};
 ghost use Rattle.recfile.specs.Settling.{IsJustSettled};
 ghost use Rattle.recfile.specs.Statuses.{status_of};
@@ -81,6 +83,8 @@ fn run_logged<L: Ledger, D: Disk + Drop, R: CountedRead<L>, W: CountedWrite<L>, 
         (W.held out.old) (W.held out.new) calls.old calls.new
         table.tree.order (table_contents table) limits table.pages.failures
         ((head_line (file_of table.pages.opening) ∷ []) ∷ []) result.unclosed result.status result.disk }
+    ensures stopped { IsTrue table.pages.steady → result.status ≡ 4
+        → LeavesOld D.DiskState (file_of table.pages.opening) result.disk }
 {
     // No more than a file may have.
     let _most = limits.records();
@@ -114,6 +118,8 @@ fn end_unread<D: Disk + Drop>(store: KeptStore<D>) -> D
     ensures left { IsTrue (D.steady store.disk) → (c : Files) → D.left_since result 0 c
         → LeavesUnread (⟦<KeptStore<D> as StoreState>⟧.opening store) c }
     ensures steady { D.steady result ≡ D.steady store.disk }
+    ensures failures { store.state ≢ SealState.Sealed → (again : Bool)
+        × (D.failures result ≡ counted (D.failures store.disk) again) }
 {
     let (disk, _put_back) = store.take_back();
     let (disk, _done) = end_beside(disk);
@@ -125,6 +131,7 @@ fn unbegun<D: Disk + Drop>(store: KeptStore<D>, fault: FileFault) -> (D, FileFau
     ensures old { IsTrue (D.steady store.disk) → (c : Files) → D.left_since result.0 0 c
         → LeavesOpening (⟦<KeptStore<D> as StoreState>⟧.opening store) c }
     ensures fault { result.1 ≡ fault }
+    ensures same { store.state ≢ SealState.Sealed → result.0 ≡ store.disk }
 {
     let (disk, _put_back) = store.take_back();
     (disk, fault)
@@ -151,6 +158,8 @@ fn begin_beside<D: Disk + Drop>(
         → D.left_since stop.0 0 c → LeavesUnbegun (D.began store.disk) c) }
     ensures fault { IsTrue (D.steady store.disk) → IfErr result (λ stop. IsHeadFault
         (recovered (D.began store.disk)).pages (recovered (D.began store.disk)).tail stop.1) }
+    ensures device { IfErr result (λ stop. D.failures stop.0
+        ≡ counted (D.failures store.disk) (is_device stop.1)) }
 {
     let mut store = store;
     let mut head = match head_of(alloc, &mut store) {
@@ -177,10 +186,9 @@ fn run_begun<L: Ledger, D: Disk + Drop, R: CountedRead<L>, W: CountedWrite<L>, E
     err: &mut E,
     calls: &mut StreamCalls<L>,
 ) -> DiskEnd<D>
-    requires file { IsTrue (D.steady store.disk) → (D.seen store.disk).main
-        ≡ file_of (⟦<KeptStore<D> as StoreState>⟧.opening store) }
     requires begun { IsTrue (D.steady store.disk)
-        → IsBegunBeside (⟦<KeptStore<D> as StoreState>⟧.opening store) }
+        → ((D.seen store.disk).main ≡ file_of (⟦<KeptStore<D> as StoreState>⟧.opening store))
+        × IsBegunBeside (⟦<KeptStore<D> as StoreState>⟧.opening store) }
     requires unrefused { store.refusals ≡ 0 }
     ensures unread { IfSome result.unopened (λ _. (result.status ≡ 1) × (result.unclosed ≡ None)
         × (reader.new ≡ reader.old) × (out.new ≡ out.old) × (calls.new ≡ calls.old)) }
@@ -189,11 +197,14 @@ fn run_begun<L: Ledger, D: Disk + Drop, R: CountedRead<L>, W: CountedWrite<L>, E
         result.unclosed result.status }
     ensures closed { IsTrue (D.steady store.disk) → result.unopened ≡ None
         → CanBeOpened (D.seen store.disk).main.pages (D.seen store.disk).main.tail limits.records }
-    ensures first { IsTrue (D.steady store.disk) → IfSome result.unopened
-        (IsFirstOrOutside (D.seen store.disk).main.pages (D.seen store.disk).main.tail limits.records) }
+    ensures device { store.state ≡ SealState.Unsealed → IfSome result.unopened
+        (λ fault. CountsClosing (D.failures store.disk) true (is_device fault) (D.failures result.disk)) }
     ensures untouched { IsTrue (D.steady store.disk) → IfSome result.unopened
-        (λ _. (c : Files) → D.left_since result.disk 0 c
-        → LeavesUnread (⟦<KeptStore<D> as StoreState>⟧.opening store) c) }
+        (λ fault. IsFirstOrOutside (D.seen store.disk).main.pages (D.seen store.disk).main.tail limits.records fault
+        × ((c : Files) → D.left_since result.disk 0 c
+        → LeavesUnread (⟦<KeptStore<D> as StoreState>⟧.opening store) c)) }
+    ensures stopped { IsTrue (D.steady store.disk) → result.status ≡ 4
+        → LeavesOld D.DiskState (D.seen store.disk).main result.disk }
     ensures session { IsTrue (D.steady store.disk) → (order : ℕ) → (contents : Contents)
         → HoldsWithin limits.records order contents (D.seen store.disk).main
         → MatchOption result.unopened (EndsDurably D.DiskState manner (R.left reader.old)
@@ -215,7 +226,8 @@ fn run_begun<L: Ledger, D: Disk + Drop, R: CountedRead<L>, W: CountedWrite<L>, E
 /// A crash at any moment of it leaves files in which an opening finds what some of the commits make, from the first on, in
 /// their order, or all and the one under way. At its end it leaves what all make, each that was answered among them, whatever
 /// failed; and while the session lasts its store is one of which `KeptStore::is_in_doubt` says the same. Where the file can't
-/// be opened no script is read, and a crash leaves the file that there was, with no log or with an empty one.
+/// be opened no script is read, and a crash leaves the file that there was, with no log or with an empty one. Where a
+/// transaction can't be ended, a crash leaves that file, with the log.
 pub fn run_durable<L: Ledger, D: Disk + Drop, R: CountedRead<L>, W: CountedWrite<L>, E: Write>(
     alloc: Global,
     disk: D,
@@ -232,6 +244,8 @@ pub fn run_durable<L: Ledger, D: Disk + Drop, R: CountedRead<L>, W: CountedWrite
     ensures ran { result.unopened ≡ None → RunsLogged manner limits
         (R.left reader.old) (R.left reader.new) (W.held out.old) (W.held out.new) calls.old calls.new
         result.unclosed result.status }
+    ensures device { IfSome result.unopened (λ fault. CountsClosing (D.failures disk) true
+        (is_device fault) (D.failures result.disk)) }
     ensures own { IsTrue (D.steady disk) → result.unopened ≡ None → Belongs (D.began disk) }
     ensures closed { IsTrue (D.steady disk) → result.unopened ≡ None
         → CanBeOpened (recovered (D.began disk)).pages (recovered (D.began disk)).tail limits.records }
@@ -239,6 +253,8 @@ pub fn run_durable<L: Ledger, D: Disk + Drop, R: CountedRead<L>, W: CountedWrite
         → IfSome result.unopened (IsUnopened (D.began disk) limits.records) }
     ensures untouched { IsTrue (D.steady disk) → IfSome result.unopened
         (λ _. (c : Files) → D.left_since result.disk 0 c → StandsUnbegun (D.began disk) c) }
+    ensures stopped { IsTrue (D.steady disk) → result.status ≡ 4
+        → LeavesOld D.DiskState (recovered (D.began disk)) result.disk }
     ensures session { IsTrue (D.steady disk) → (order : ℕ) → (contents : Contents)
         → HoldsWithin limits.records order contents (recovered (D.began disk))
         → MatchOption result.unopened (EndsDurably D.DiskState manner (R.left reader.old)

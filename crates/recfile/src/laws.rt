@@ -7,12 +7,13 @@ ghost use Rattle.rec_types.specs.LimitBounds.{Bounds};
 ghost use Rattle.rec_types.specs.Table.{greatest_count};
 ghost use Rattle.rec_types.specs.declared.transaction.TxId.{TxId};
 ghost use Rattle.record_file.specs.Abstract.{File, new_file, open_of};
+ghost use Rattle.record_file.specs.Durable.{overlay};
 ghost use Rattle.record_file.specs.Runs.{Seen};
 ghost use Rattle.page_store.specs.Journal.{Journal, noted};
 ghost use Rattle.page_store.specs.declared.step.Step.TheVariants as steps;
 ghost use Rattle.page_journal.specs.Examples.{alone, both_writes, old_file};
 ghost use Rattle.page_journal.specs.Files.{PageFile, Kept, Files, Belongs, recovered};
-ghost use Rattle.page_journal.specs.History.{History, LeftSince};
+ghost use Rattle.page_journal.specs.History.{History, LeftSince, MayLeave, all_done};
 ghost use Rattle.page_journal.specs.declared.disk_call.DiskCall.{DiskCall};
 ghost use Rattle.btree_delete.specs.Closing.{closing};
 ghost use Rattle.btree_delete.specs.TableView.{TableView};
@@ -23,14 +24,16 @@ ghost use Rattle.command_text.specs.Refusals.{is_refusal};
 ghost use Rattle.command_text.specs.Script.{entries_in, entries_of};
 ghost use Rattle.command_text.specs.Units.{Write, unit_commands};
 ghost use Rattle.command_text.specs.declared.reply.Reply.{Reply};
-ghost use Rattle.recfile.specs.DurableSession.{IsFrontOrMore};
+ghost use Rattle.recfile.specs.DurableSession.{AreFirstCommits, EndsDurably};
 ghost use Rattle.recfile.specs.Ending.{EndsAll, without};
 ghost use Rattle.recfile.specs.Examples.{four_changes, two_taken_back};
 ghost use Rattle.recfile.specs.Kept.{ClosesSafely, CountsClosing, HasRecords, IsKept, LeavesEither};
-ghost use Rattle.recfile.specs.LogOver.{IsHead, IsLogOver};
+ghost use Rattle.recfile.specs.LogOver.{Finds, HoldsRecords, IsHead, IsLogOver};
 ghost use Rattle.recfile.specs.Overlaid.{IsLogCommand, SayWrites, writes_in_turn, writes_said};
 ghost use Rattle.recfile.specs.Room.{HasRoomFor, was_kept};
 ghost use Rattle.recfile.specs.Run.{Session};
+ghost use Rattle.recfile.specs.SessionCommits.{IsInDoubt, MakesCommits, in_doubt};
+ghost use Rattle.recfile.specs.Settling.{PutsRight};
 ghost use Rattle.recfile.specs.StoreSession.{WritesBack};
 ghost use Rattle.recfile.specs.Streams.{CallsMade, TellsFailed, no_call, run_read_fault, run_write_fault};
 ghost use Rattle.recfile.specs.WholeSession.{EndsFile, IsSession, RunsFile};
@@ -81,13 +84,54 @@ pub fn openings_find_commits()
     ensures empty { (head : List ℕ) (under records : Contents) → IsLogOver head under records [] → ⊥ }
 {}
 
-/// What a crash of a durable session leaves are commits from the first on: some, all, or all and one more. Not the later without
-/// the earlier, nor two more.
+/// What a crash of a durable session leaves are commits from the first on: not the later without the earlier, nor one that
+/// wasn't asked for.
 pub fn commits_last_in_order()
-    ensures some { (a b : List Write) → IsFrontOrMore (a ∷ []) (a ∷ b ∷ []) }
-    ensures more { (a b : List Write) → IsFrontOrMore (a ∷ b ∷ []) (a ∷ []) }
-    ensures earlier_lost { (a b : List Write) → a ≢ b → IsFrontOrMore (b ∷ []) (a ∷ b ∷ []) → ⊥ }
-    ensures two_more { (a b : List Write) → IsFrontOrMore (a ∷ b ∷ []) [] → ⊥ }
+    ensures some { (a b : List Write) → AreFirstCommits (a ∷ []) (a ∷ b ∷ []) }
+    ensures earlier_lost { (a b : List Write) → a ≢ b → AreFirstCommits (b ∷ []) (a ∷ b ∷ []) → ⊥ }
+    ensures one_more { (a b : List Write) → AreFirstCommits (a ∷ b ∷ []) (a ∷ []) → ⊥ }
+{}
+
+/// What no durable session leaves: the records without a commit that was kept, where none is in doubt; records that no commit
+/// made; the commit in doubt without the one before it; a log beside the file that it closed. No commit is in doubt of a
+/// transaction that wasn't begun, and none is kept that isn't in the log.
+pub fn durable_sessions_by_example()
+    ensures lost { (manner : Manner) (left leaves held holds : Option (List ℕ))
+        (before after : CallsMade) (order : ℕ) (contents : Contents) (limits : Bounds) (failures : ℕ)
+        (commits : List (List (List ℕ))) (unclosed : Option FileFault) (status : ℕ) (disk : History)
+        → (ends : EndsDurably ⟦<MemDisk as DiskState>⟧ manner left leaves held holds before after
+        order contents limits failures commits unclosed status disk) → (es : List Write) (c : Files)
+        → ends.made.kept ≡ es ∷ [] → in_doubt ends.made.doubted ≡ []
+        → overlay contents es ≢ contents → MayLeave disk.first disk.calls c
+        → Finds order contents c → ⊥ }
+    ensures made_up { (manner : Manner) (left leaves held holds : Option (List ℕ))
+        (before after : CallsMade) (order : ℕ) (contents : Contents) (limits : Bounds) (failures : ℕ)
+        (commits : List (List (List ℕ))) (unclosed : Option FileFault) (status : ℕ) (disk : History)
+        → (ends : EndsDurably ⟦<MemDisk as DiskState>⟧ manner left leaves held holds before after
+        order contents limits failures commits unclosed status disk) → (others : Contents) (c : Files)
+        → ends.made.kept ≡ [] → in_doubt ends.made.doubted ≡ [] → others ≢ contents
+        → LeftSince disk.first disk.calls 0 c → Finds order others c → ⊥ }
+    ensures alone { (manner : Manner) (left leaves held holds : Option (List ℕ))
+        (before after : CallsMade) (order : ℕ) (contents : Contents) (limits : Bounds) (failures : ℕ)
+        (commits : List (List (List ℕ))) (unclosed : Option FileFault) (status : ℕ) (disk : History)
+        → (ends : EndsDurably ⟦<MemDisk as DiskState>⟧ manner left leaves held holds before after
+        order contents limits failures commits unclosed status disk) → (a b : List Write) (c : Files)
+        → ends.made.kept ≡ a ∷ [] → in_doubt ends.made.doubted ≡ b ∷ []
+        → overlay contents b ≢ overlay contents a
+        → overlay contents b ≢ overlay (overlay contents a) b
+        → MayLeave disk.first disk.calls c → Finds order (overlay contents b) c → ⊥ }
+    ensures unended { (manner : Manner) (left leaves held holds : Option (List ℕ))
+        (before after : CallsMade) (order : ℕ) (contents : Contents) (limits : Bounds) (failures : ℕ)
+        (commits : List (List (List ℕ))) (status : ℕ) (disk : History)
+        → (ends : EndsDurably ⟦<MemDisk as DiskState>⟧ manner left leaves held holds before after
+        order contents limits failures commits None status disk) → (count : ℕ) (c : Files)
+        → ends.run.ended ≡ Ok count → MayLeave disk.first disk.calls c
+        → c.commits.log ≢ None → ⊥ }
+    ensures unbegun { (old : Seen) (text : List ℕ) (es : List Write) (contents : Contents)
+        (limits : Bounds) → (doubt : IsInDoubt old text es) → old.file ≡ new_file contents limits
+        → doubt.events ≡ [] → ⊥ }
+    ensures unkept { (old new : Seen) → (made : MakesCommits old new) → (es : List Write)
+        → made.kept ≡ es ∷ [] → new.commits ≡ old.commits → ⊥ }
 {}
 
 /// Ending takes back the live changes of open transactions and no others; it is no commit.
@@ -235,4 +279,25 @@ pub fn sessions_and_crashes()
         → LeftSince two.first two.calls 0 left
         → Belongs left × ((recovered left ≡ old) ⊎ HasRecords order first (recovered left)
         ⊎ HasRecords later second (recovered left)) }
+{}
+
+/// What puts no page file right, by disks in memory. Where an opening finds records in the old files, the file doesn't have
+/// others at Ok, and no crash on the way leaves files in which it finds others. No log stands beside the file at Ok. BadJournal
+/// isn't answered where the side file is of the file, nor BadCommits where an opening finds records.
+pub fn settlings_by_example()
+    ensures dropped { (old new : History) (order later : ℕ) (records others : Contents)
+        → Finds order records old.first → records ≢ others
+        → PutsRight ⟦<MemDisk as DiskState>⟧ old (Ok tt) new
+        → HoldsRecords later others (all_done new.first new.calls).main → ⊥ }
+    ensures log_left { (old new : History) → PutsRight ⟦<MemDisk as DiskState>⟧ old (Ok tt) new
+        → (all_done new.first new.calls).commits.log ≢ None → ⊥ }
+    ensures lost_on_the_way { (old new : History) (answer : Result (Unit {0}) FileFault) (order later : ℕ)
+        (records others : Contents) (left : Files) → Finds order records old.first
+        → PutsRight ⟦<MemDisk as DiskState>⟧ old answer new
+        → LeftSince new.first new.calls 0 left → records ≢ others → Finds later others left → ⊥ }
+    ensures journal_blamed { (old new : History) → Belongs old.first
+        → PutsRight ⟦<MemDisk as DiskState>⟧ old (Err faults.BadJournal) new → ⊥ }
+    ensures healthy_refused { (old new : History) (order : ℕ) (records : Contents)
+        → Finds order records old.first
+        → PutsRight ⟦<MemDisk as DiskState>⟧ old (Err faults.BadCommits) new → ⊥ }
 {}

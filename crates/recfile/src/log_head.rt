@@ -1,8 +1,10 @@
-ghost use Rattle.std.specs.Prelude.{◌≡◌, ◌≤◌, ◌∷◌, [], length, IsTrue, IfOk, IfErr, OnOk};
+ghost use Rattle.std.specs.Prelude.{◌≡◌, ◌≤◌, ◌∷◌, [], length, IsTrue, IfOk, IfErr};
+ghost use Rattle.rec_types.specs.Table.{counted};
 ghost use Rattle.commit_paper.specs.Text.{IsUnit};
 ghost use Rattle.std.specs.String.{string_bytes};
 ghost use Rattle.page_store.specs.StoreCalls.{StaysStore};
 ghost use Rattle.recfile.specs.Beside.{IsHeadFault};
+ghost use Rattle.recfile.specs.FileFaults.{is_device_answer};
 ghost use Rattle.recfile.specs.LogOver.{head_line, head_text};
 
 use crate::file_fault::FileFault;
@@ -37,8 +39,8 @@ pub(crate) fn head_of<D: Disk + Drop>(
     ensures unit { IfOk result (λ head. IsUnit (head.items ∷ [])) }
     ensures short { IfOk result (λ head. length head.items ≤ 64) }
     ensures stays { StaysStore ⟦<KeptStore<D> as StoreState>⟧ store.old store.new }
-    ensures failures { OnOk result (⟦<KeptStore<D> as StoreState>⟧.failures store.new
-        ≡ ⟦<KeptStore<D> as StoreState>⟧.failures store.old) }
+    ensures failures { ⟦<KeptStore<D> as StoreState>⟧.failures store.new
+        ≡ counted (⟦<KeptStore<D> as StoreState>⟧.failures store.old) (is_device_answer result) }
     ensures fault { IsTrue (D.steady store.old.disk) → IfErr result (IsHeadFault
         (D.seen store.old.disk).main.pages (D.seen store.old.disk).main.tail) }
 {

@@ -24,13 +24,13 @@ impl LogKeeper {
 
 impl<D: Disk + Drop> Keeper<TreeTable<KeptStore<D>>> for LogKeeper {
     ghost use Rattle.std.specs.Prelude.{true};
-    ghost use Rattle.recfile.specs.LogKeeping.{MadeKept, MovesBeside, beside_none, beside_on};
+    ghost use Rattle.recfile.specs.LogKeeping.{IsKeptBeside, MadeKept, beside_none, beside_on};
 
     ghost keeps = { true };
 
     ghost answers = { λ _ old es answer new. MadeKept es old answer new };
 
-    ghost moves = { MovesBeside };
+    ghost moves = { IsKeptBeside };
 
     ghost moves_none = { beside_none };
 

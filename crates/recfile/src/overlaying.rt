@@ -1,8 +1,10 @@
 ghost use Rattle.std.specs.Prelude.{◌≡◌, Ok, IsTrue, IfErr, OnOk};
 ghost use Rattle.std.specs.List.{All};
+ghost use Rattle.rec_types.specs.Table.{counted};
 ghost use Rattle.command_text.specs.Script.{entries_of};
 ghost use Rattle.record_file.specs.Durable.{overlay};
 ghost use Rattle.recfile.specs.Beside.{IsOverlayFault};
+ghost use Rattle.recfile.specs.FileFaults.{is_device_overlay};
 ghost use Rattle.recfile.specs.Overlaid.{IsLogCommand, line_entries, write_said, writes_said};
 
 use crate::next_line::next_line;
@@ -36,11 +38,12 @@ fn overlay_one<T: Table>(table: &mut T, command: &Command) -> Result<(), Overlay
     ensures said { IsTrue (T.sound table.old) → OnOk result (T.contents table.new
         ≡ overlay (T.contents table.old) (write_said (Ok command.now))) }
     ensures logged { OnOk result (IsLogCommand (Ok command.now)) }
-    ensures refused { IsTrue (T.sound table.old) → IsLogCommand (Ok command.now)
-        → IfErr result IsOverlayFault }
+    ensures refused { IsTrue (T.sound table.old)
+        → IfErr result (IsOverlayFault (IsLogCommand (Ok command.now))) }
     ensures sound { T.sound table.new ≡ T.sound table.old }
     ensures origin { T.origin table.new ≡ T.origin table.old }
-    ensures failures { OnOk result (T.device_failures table.new ≡ T.device_failures table.old) }
+    ensures failures { T.device_failures table.new
+        ≡ counted (T.device_failures table.old) (is_device_overlay result) }
 {
     match command {
         Command::Begin | Command::Commit(_) => {}
@@ -63,11 +66,12 @@ fn overlay_line<T: Table>(
     ensures said { IsTrue (T.sound table.old) → OnOk result (T.contents table.new
         ≡ overlay (T.contents table.old) (writes_said (line_entries said.now))) }
     ensures logged { OnOk result (All IsLogCommand (line_entries said.now)) }
-    ensures refused { IsTrue (T.sound table.old) → All IsLogCommand (line_entries said.now)
-        → IfErr result IsOverlayFault }
+    ensures refused { IsTrue (T.sound table.old)
+        → IfErr result (IsOverlayFault (All IsLogCommand (line_entries said.now))) }
     ensures sound { T.sound table.new ≡ T.sound table.old }
     ensures origin { T.origin table.new ≡ T.origin table.old }
-    ensures failures { OnOk result (T.device_failures table.new ≡ T.device_failures table.old) }
+    ensures failures { T.device_failures table.new
+        ≡ counted (T.device_failures table.old) (is_device_overlay result) }
 {
     match said {
         Ok(None) => Ok(()),
@@ -82,11 +86,12 @@ pub fn overlay_text<T: Table>(table: &mut T, text: &[u8]) -> Result<(), OverlayF
     ensures said { IsTrue (T.sound table.old) → OnOk result (T.contents table.new
         ≡ overlay (T.contents table.old) (writes_said (entries_of text.now))) }
     ensures logged { OnOk result (All IsLogCommand (entries_of text.now)) }
-    ensures refused { IsTrue (T.sound table.old) → All IsLogCommand (entries_of text.now)
-        → IfErr result IsOverlayFault }
+    ensures refused { IsTrue (T.sound table.old)
+        → IfErr result (IsOverlayFault (All IsLogCommand (entries_of text.now))) }
     ensures sound { T.sound table.new ≡ T.sound table.old }
     ensures origin { T.origin table.new ≡ T.origin table.old }
-    ensures failures { OnOk result (T.device_failures table.new ≡ T.device_failures table.old) }
+    ensures failures { T.device_failures table.new
+        ≡ counted (T.device_failures table.old) (is_device_overlay result) }
 {
     let mut rest = text;
     while !rest.is_empty() {

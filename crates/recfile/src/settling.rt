@@ -1,6 +1,8 @@
-ghost use Rattle.std.specs.Prelude.{◌≡◌, ℕ, List, None, Err, Ok, IsTrue, IfErr, IfOk, OnOk};
+ghost use Rattle.std.specs.Prelude.{◌≡◌, ◌≢◌, ℕ, List, None, Err, Ok, IsTrue, IfErr, IfOk, OnOk};
 ghost use Rattle.std.specs.Option.{option_to_list};
+ghost use Rattle.std.specs.Result.{is_err};
 ghost use Rattle.rec_types.specs.Contents.{Contents};
+ghost use Rattle.rec_types.specs.Table.{counted, is_device};
 ghost use Rattle.commit_paper.specs.Text.{AreUnits, log_text};
 ghost use Rattle.command_text.specs.Script.{entries_of};
 ghost use Rattle.btree_delete.specs.TableView.{table_contents};
@@ -10,10 +12,12 @@ ghost use Rattle.page_journal.specs.Files.{Belongs, Files, recovered};
 ghost use Rattle.page_journal.specs.Logging.{HasLog, HasLogOf, HasNoLog, IsTextOf};
 ghost use Rattle.page_journal.specs.Recovery.{IsForeign};
 ghost use Rattle.page_journal.specs.Steps.{StaysSteady};
-ghost use Rattle.recfile.specs.Beside.{IsSettledWith, IsSettlingFault, IsTableOutside, LeavesEnded, LeavesFiles, LeavesOpening, LosesNone, StaysTable};
+ghost use Rattle.recfile.specs.Beside.{IsSettledWith, IsSettlingFault, IsTableOutside, IsUnput, LeavesEnded, LeavesFiles, LeavesOpening, LosesNone, StaysTable};
 ghost use Rattle.recfile.specs.Dumped.{IsOutsideFile};
+ghost use Rattle.recfile.specs.FileFaults.{is_device_answer};
+ghost use Rattle.recfile.specs.Kept.{CountsClosing};
 ghost use Rattle.recfile.specs.LogOver.{Finds, IsLogOver, SayOver, keys_said, values_at};
-ghost use Rattle.recfile.specs.Settling.{PutsRight};
+ghost use Rattle.recfile.specs.Settling.{FindsAny, IsUnsettledOver, PutsRight};
 ghost use Rattle.recfile.specs.Overlaid.{line_entries, writes_said};
 
 use crate::file_fault::FileFault;
@@ -52,7 +56,8 @@ fn values_of<T: Table>(
     ensures same { T.contents table.new ≡ T.contents table.old }
     ensures sound { T.sound table.new ≡ T.sound table.old }
     ensures origin { T.origin table.new ≡ T.origin table.old }
-    ensures failures { OnOk result (T.device_failures table.new ≡ T.device_failures table.old) }
+    ensures failures { T.device_failures table.new
+        ≡ counted (T.device_failures table.old) (is_device result) }
 {
     let mut values = Vec::new(alloc);
     let mut rest = text;
@@ -72,8 +77,8 @@ fn put_unchanged<T: Table>(alloc: Global, table: &mut T, text: &[u8]) -> Result<
     ensures over { IsTrue (T.sound table.old) → OnOk result (SayOver (T.contents table.old)
         (entries_of text.now) (T.contents table.new)
         × (T.contents table.new ≡ T.contents table.old)) }
-    ensures found { IsTrue (T.sound table.old) → SayOver (T.contents table.old)
-        (entries_of text.now) (T.contents table.old) → IfErr result IsSettlingFault }
+    ensures fault { IsTrue (T.sound table.old) → IfErr result (IsUnput
+        (SayOver (T.contents table.old) (entries_of text.now) (T.contents table.old))) }
     ensures stays { StaysTable T.TableState table.old result table.new }
 {
     let before = values_of(alloc, table, text)?;
@@ -97,10 +102,9 @@ fn put_over<T: Table>(
     ensures over { IsTrue (T.sound table.old) → (units : List (List (List ℕ))) → AreUnits units
         → text.now ≡ log_text units → OnOk result
         (IsLogOver head.now (T.contents table.old) (T.contents table.new) units) }
-    ensures found { IsTrue (T.sound table.old) → (units : List (List (List ℕ))) → AreUnits units
-        → text.now ≡ log_text units → (records : Contents)
-        → IsLogOver head.now (T.contents table.old) records units
-        → IfErr result IsSettlingFault }
+    ensures fault { IsTrue (T.sound table.old) → (units : List (List (List ℕ))) → AreUnits units
+        → text.now ≡ log_text units → IfErr result (IsUnput ((records : Contents)
+        × IsLogOver head.now (T.contents table.old) records units)) }
     ensures stays { StaysTable T.TableState table.old result table.new }
 {
     if text.is_empty() {
@@ -123,6 +127,7 @@ fn let_go<D: Disk + Drop>(store: KeptStore<D>, fault: FileFault) -> (D, Result<(
         → LeavesOpening (⟦<KeptStore<D> as StoreState>⟧.opening store) c }
     ensures fault { result.1 ≡ Err fault }
     ensures steady { D.steady result.0 ≡ D.steady store.disk }
+    ensures same { store.state ≢ SealState.Sealed → result.0 ≡ store.disk }
 {
     let (disk, _nothing) = store.take_back();
     (disk, Err(fault))
@@ -150,7 +155,8 @@ pub(crate) fn end_beside<D: Disk + Drop>(disk: D) -> (D, Result<(), FileFault>)
     ensures pages { LeavesPages D.DiskState disk result.0 }
     ensures gone { OnOk result.1 (HasNoLog D.DiskState result.0) }
     ensures any_moment { LeavesOnly D.DiskState (HasLogOf D.DiskState disk) disk result.0 }
-    ensures failures { OnOk result.1 (D.failures result.0 ≡ D.failures disk) }
+    ensures failures { D.failures result.0
+        ≡ counted (D.failures disk) (is_device_answer result.1) }
     ensures fault { IfErr result.1 IsOutsideFile }
 {
     let mut disk = disk;
@@ -171,7 +177,8 @@ pub(crate) fn close_beside<D: Disk + Drop>(
         (IsSettledWith D.DiskState table.tree.order (table_contents table) result.0) }
     ensures fault { IfErr result.1 IsOutsideFile }
     ensures failures { table.pages.guard ≡ Unsealed 0 → table.pages.tail ≡ 0
-        → OnOk result.1 (D.failures result.0 ≡ table.pages.failures) }
+        → CountsClosing table.pages.failures (is_err result.1) (is_device_answer result.1)
+        (D.failures result.0) }
     ensures steady { D.steady result.0 ≡ table.pages.steady }
 {
     let (disk, done) = close_table(table);
@@ -197,14 +204,14 @@ fn settle_table<D: Disk + Drop>(
         → IsLogOver head.now (table_contents table) records units → (c : Files)
         → D.left_since result.0 0 c
         → LeavesEnded table.pages.opening table.tree.order records c }
-    ensures found { IsTrue table.pages.steady → (units : List (List (List ℕ))) → AreUnits units
-        → text.now ≡ log_text units → (records : Contents)
-        → IsLogOver head.now (table_contents table) records units
-        → IfErr result.1 IsSettlingFault }
+    ensures fault { IsTrue table.pages.steady → (units : List (List (List ℕ))) → AreUnits units
+        → text.now ≡ log_text units → IfErr result.1 (IsUnput ((records : Contents)
+        × IsLogOver head.now (table_contents table) records units)) }
     ensures bad { IsTrue table.pages.steady → result.1 ≡ Err FileFault.BadCommits → (c : Files)
         → D.left_since result.0 0 c → LeavesOpening table.pages.opening c }
     ensures failures { table.pages.guard ≡ Unsealed 0 → table.pages.tail ≡ 0
-        → OnOk result.1 (D.failures result.0 ≡ table.pages.failures) }
+        → CountsClosing table.pages.failures (is_err result.1) (is_device_answer result.1)
+        (D.failures result.0) }
     ensures steady { D.steady result.0 ≡ table.pages.steady }
 {
     let mut table = table;
@@ -227,17 +234,16 @@ fn settle_file<D: Disk + Drop>(
     ensures over { IsTrue (D.steady store.disk) → OnOk result.1 ((order : ℕ) × (records : Contents)
         × Finds order records (D.began store.disk)
         × IsSettledWith D.DiskState order records result.0) }
-    ensures settled { IsTrue (D.steady store.disk) → (order : ℕ) → (records : Contents)
-        → Finds order records (D.began store.disk)
-        → OnOk result.1 (IsSettledWith D.DiskState order records result.0) }
     ensures kept { IsTrue (D.steady store.disk) → (order : ℕ) → (records : Contents)
         → Finds order records (D.began store.disk) → (c : Files) → D.left_since result.0 0 c
         → Finds order records c }
-    ensures found { IsTrue (D.steady store.disk) → (order : ℕ) → (records : Contents)
-        → Finds order records (D.began store.disk) → IfErr result.1 IsSettlingFault }
+    ensures fault { IsTrue (D.steady store.disk)
+        → IfErr result.1 (λ fault. IsUnsettledOver (D.began store.disk) fault
+        × (FindsAny (D.began store.disk) → IsSettlingFault fault)) }
     ensures bad { IsTrue (D.steady store.disk) → result.1 ≡ Err FileFault.BadCommits → (c : Files)
         → D.left_since result.0 0 c → LeavesFiles (D.began store.disk) c }
-    ensures failures { OnOk result.1 (D.failures result.0 ≡ D.failures store.disk) }
+    ensures failures { CountsClosing (D.failures store.disk) (is_err result.1)
+        (is_device_answer result.1) (D.failures result.0) }
     ensures steady { D.steady result.0 ≡ D.steady store.disk }
 {
     let mut store = store;
@@ -256,9 +262,10 @@ fn settle_file<D: Disk + Drop>(
 /// crash at any moment of it leaves files in which an opening finds the records that it found before. Without a side file and
 /// a log nothing is changed.
 ///
-/// Faults: Device and Memory, where they are met; BadJournal; BadCommits, where the log is none of this version, or is that of
-/// another file and would change records: the files stand for what they stood for then; those of a file that isn't opened;
-/// TooManyRecords, where more than a million records would be there.
+/// Faults: Device, where the disk failed; Memory; BadJournal, where the side file is of another file. Where a log stands beside
+/// the file, the first check of it that fails, too; of a closed file BadCommits, where the log is none of this version, or is
+/// that of another file and would change records: the files stand for what they stood for then; and TooManyRecords, where more
+/// than a million records would be there.
 pub fn settle<D: Disk + Drop>(alloc: Global, disk: D) -> (D, Result<(), FileFault>)
     requires rest { IsAtRest D.DiskState disk }
     requires began { IsTrue (D.steady disk) → D.seen disk ≡ D.began disk }

@@ -33,6 +33,8 @@ impl TableState for FileTable {
     ghost origin = { origin_of };
 
     ghost commits = { λ _. [] };
+
+    ghost doubt = { λ _. [] };
 }
 
 impl Table for FileTable {

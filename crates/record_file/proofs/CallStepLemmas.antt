@@ -12,7 +12,7 @@ use Rattle.record_file.specs.Refusals.{get_refusal, entries_refusal, cause_by}
 use Rattle.record_file.specs.declared.refusal.Refusal.{Refusal}
 use Rattle.record_file.specs.Steps.{listed}
 use Rattle.record_file.specs.Runs.{Called, Seen, Answers, IsKeptSeen, cause_in, seen, seen_as}
-use Rattle.record_file.specs.Seen.{commits_of}
+use Rattle.record_file.specs.Seen.{commits_of, doubt_of}
 use Rattle.record_file.specs.declared.call.Call.{Call}
 use Rattle.record_file.specs.declared.call.Answer.{Answer}
 use Rattle.record_file.specs.Calls.{TellsOf, Makes}
@@ -34,6 +34,7 @@ same_but_file t old new table log logged i = record {
   calls = t.calls (table i);
   logged = logged;
   commits = commits_of logged t (table i);
+  doubt = doubt_of logged t (table i);
 }
 
 -- the same of a commit that isn't kept

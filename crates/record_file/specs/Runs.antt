@@ -28,7 +28,7 @@ use Rattle.record_file.specs.Asked.{Asks, MayPut, MayRemove, UndoAsks, looked_un
 use Rattle.record_file.specs.Outside.{by_device, by_memory, named_by, TellsDamage, NeverDamaged}
 use Rattle.record_file.specs.Refusals.{put_refusal, claim_refusal, remove_refusal, get_refusal, rollback_refusal, abort_refusal, resume_refusal, entries_refusal, refusal_by, cause_by, by_file}
 use Rattle.record_file.specs.declared.fault.Cause.{Cause}
-pub use Rattle.record_file.specs.Seen.{Seen, seen, seen_as}
+pub use Rattle.record_file.specs.Seen.{Seen, seen, seen_as, undoubted}
 use Rattle.record_file.specs.Steps.{rose, key_refusal, tx_refusal, returning_refusal, resuming_refusal, Accepts, key_change, BeginStep, PutStep, ClaimStep, RemoveStep, GetStep, SavepointStep, ReleaseStep, CommitStep, RollsBackTo, RollbackToStep, Aborts, AbortStep, Resumes, ResumeStep, EntriesStep, KeysOfStep, status_of}
 
 -- a call with its arguments, and what it answered

@@ -372,6 +372,8 @@ impl<S: Store> TableState for TreeTable<S> {
     ghost origin = { origin_of };
 
     ghost commits = { λ o. o.opening.commits };
+
+    ghost doubt = { λ o. o.opening.doubt };
 }
 
 // A method's clauses stand in place of its trait's, so these are written again before those that tell

@@ -94,6 +94,8 @@ impl<T: Table> TableState for LyingTable<T> {
     ghost origin = { λ t. T.origin t.inner };
 
     ghost commits = { T.commits };
+
+    ghost doubt = { T.doubt };
 }
 
 impl<T: Table> Table for LyingTable<T> {

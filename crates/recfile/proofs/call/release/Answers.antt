@@ -1,23 +1,24 @@
 use Rattle.std.proofs.Common.{[], ◌∷◌, false, refl, ap}
 use Rattle.command_text.specs.declared.reply.Reply.TheVariants as replies
-use Rattle.record_file.specs.Runs.{seen_as, Release}
-use Rattle.recfile.proofs.CallRunLemmas.{quiet}
-use Rattle.record_file.proofs.CallStepLemmas.{same_but_file}
+use Rattle.record_file.specs.Runs.{seen_as, undoubted, Release}
+use Rattle.recfile.proofs.CallRunLemmas.{file_undoubted, quiet}
+use Rattle.record_file.specs.Seen.{doubt_of}
 use Rattle.recfile.proofs.call.release.Goals as goal
 
 pub returns : goal.returns
 returns g c =
     record {
       told = λ logged was is.
-          let old = seen_as logged g.T.TableState c.args.file.now in
-          let new = seen_as logged g.T.TableState c.release.new.self in (
+          let old = undoubted (seen_as logged g.T.TableState c.args.file.now) in
+          let new = undoubted (seen_as logged g.T.TableState c.release.new.self) in (
             replies.Release c.release.result,
             record {
               events = record { called = Release c.args.tx c.args.n c.release.result; failed = false; refused = false } ∷ [];
               told = refl;
               kept = tt;
               alone = λ _. refl;
-              ran = let same = same_but_file g.T.TableState c.args.file.now c.release.new.self c.release.ensures.table c.release.ensures.log logged in quiet old new (Release c.args.tx c.args.n c.release.result) refl was is same ((refl, refl, same), c.release.ensures.step);
+              doubt = ap (doubt_of logged g.T.TableState) c.release.ensures.table;
+              ran = let same = file_undoubted g.T.TableState c.args.file.now c.release.new.self c.release.ensures.table c.release.ensures.log logged in quiet old new (Release c.args.tx c.args.n c.release.result) refl was is same ((refl, refl, same), c.release.ensures.step);
             },
             c.tell.ensures,
           );

@@ -11,7 +11,7 @@ use Rattle.recfile.proofs.call.reply_to.Goals as goal
 
 -- a line that can't be read makes no call
 bad_line : (old : Seen) (said : Read (Option Command)) (fault : LineFault) → said ≡ Err fault → LineHasReply old said (replies.Bad fault) old
-bad_line old said fault is = subst (λ (s : Read (Option Command)). LineHasReply old s (replies.Bad fault) old) (sym is) (record { events = []; told = (refl, refl); kept = tt; alone = λ _. refl; ran = refl })
+bad_line old said fault is = subst (λ (s : Read (Option Command)). LineHasReply old s (replies.Bad fault) old) (sym is) (record { events = []; told = (refl, refl); kept = tt; alone = λ _. refl; doubt = refl; ran = refl })
 
 pub returns-in_err-bad-in-Err-clause-told : goal.returns-in_err-bad-in-Err-clause-told
 returns-in_err-bad-in-Err-clause-told g c =

@@ -1,6 +1,7 @@
 use Rattle.std.proofs.Common.{◌≡◌, ◌≤◌, inl, arith, ℕ, false, true, List, [], ◌∷◌, is_some, Result, Ok, Err, OnOk, IsTrue, refl, sym, ap, subst, ◌∙◌}
 use Rattle.btree_delete.specs.TableView.{TableView, table_contents}
-use Rattle.page_journal.specs.Files.{Files}
+use Rattle.btree_delete.specs.Origins.{Origin}
+use Rattle.page_journal.specs.Files.{Files, PageFile}
 use Rattle.record_file.specs.Abstract.{OpenFile}
 use Rattle.record_file.specs.Durable.{overlay}
 use Rattle.record_file.specs.Runs.{Seen, seen_as}
@@ -8,17 +9,17 @@ use Rattle.rec_types.specs.Contents.{Contents}
 use Rattle.rec_types.specs.LimitBounds.{most_records}
 use Rattle.recfile.specs.Beside.{IsSettledWith, LeavesEnded, LosesNone}
 use Rattle.recfile.specs.DurableSession.{IsBegunBeside, logged_file}
-use Rattle.recfile.specs.Kept.{file_of}
+use Rattle.recfile.specs.Kept.{LeavesOld, file_of}
 use Rattle.recfile.specs.LogOver.{head_line}
-use Rattle.recfile.specs.LogKeeping.{DoubtSays, MovesBeside}
+use Rattle.recfile.specs.LogKeeping.{IsKeptBeside}
 use Rattle.recfile.specs.Overlaid.{writes_in_turn}
-use Rattle.recfile.specs.SessionCommits.{MakesCommits}
+use Rattle.recfile.specs.SessionCommits.{MakesCommits, in_doubt}
 use Rattle.recfile.specs.Statuses.{status_of}
 use Rattle.recfile.specs.WholeSession.{IsSession, IsUncounted}
 use Rattle.recfile.specs.declared.endings.EndFault.{EndFault}
-use Rattle.recfile.proofs.DurableLemmas.{each_finds, ended_finds_all, opening_finds}
-use Rattle.recfile.proofs.DurableRunLemmas.{doubt_kept, logged_commits, made, new_commits, opening_kept, order_kept, records_made, within}
-use Rattle.recfile.proofs.OpenedLemmas.{begun_logged, fresh_logged, treed}
+use Rattle.recfile.proofs.DurableLemmas.{DoubtIs, each_finds, ended_finds_all, opening_finds}
+use Rattle.recfile.proofs.DurableRunLemmas.{doubt_is, logged_commits, logged_doubt, made, new_commits, new_doubt, opening_kept, order_kept, records_made, within}
+use Rattle.recfile.proofs.OpenedLemmas.{begun_logged, fresh_logged, never_4, treed}
 use Rattle.recfile.proofs.durable.run_logged.Given as given
 use Rattle.recfile.proofs.durable.run_logged.Goals as goal
 use Rattle.recfile.proofs.durable.run_logged.Goals.{After-abandon-table}
@@ -59,6 +60,15 @@ returns-in-Err-clause-ran g c = (
   refl,
 )
 
+pub returns-in-Ok-clause-stopped : goal.returns-in-Ok-clause-stopped
+returns-in-Ok-clause-stopped g c steady four =
+    absurd (never_4 (is_some c.close_logged.result.unclosed) c.is_err-script_fault.result (sym (ap (λ e. e.status) c.close_logged.ensures.end) ∙ four))
+
+pub returns-in-Err-clause-stopped : goal.returns-in-Err-clause-stopped
+returns-in-Err-clause-stopped g c steady four =
+    let kept = subst (λ (x : TableView × TableView). IsKeptBeside x.0 x.1) (λ i. (ap (λ (f : OpenFile TableView). f.table) c.new-file.ensures i, sym c.abandon-table.ensures i)) c.run_session-end.ensures.moves in
+    subst (λ (f : PageFile). LeavesOld g.D.DiskState f c.give_back.result) (opening_kept c.args.table c.abandon-table.result kept).0 (c.give_back.ensures.old (ap (λ (o : Origin). o.steady) kept ∙ steady))
+
 -- the session that was run over the file beside which a log was begun, with that end
 module _ (g : given.Over) (c : After-abandon-table g) (steady : IsTrue c.args.table.pages.steady) (uncounted : IsUncounted c.args.table) (begun : IsBegunBeside c.args.table.pages.opening) (ended : Result ℕ EndFault) (is : c.run_session-end.result.ended ≡ ended) where
   abbrev head : List (List (List ℕ))
@@ -66,7 +76,7 @@ module _ (g : given.Over) (c : After-abandon-table g) (steady : IsTrue c.args.ta
 
   session : IsSession c.args.manner (g.R.CountedRead.left c.args.reader.now) (g.R.CountedRead.left c.run_session-end.new.reader) (g.W.CountedWrite.held c.args.out.now) (g.W.CountedWrite.held c.run_session-end.new.out) (logged_file (table_contents c.args.table) c.args.limits c.args.table.pages.failures head) c.run_session-end.ensures.session.0 c.run_session-end.result.script ended (seen_as true treed c.run_session-end.new.file)
   session =
-      subst (λ (x : Seen × Result ℕ EndFault). IsSession c.args.manner (g.R.CountedRead.left c.args.reader.now) (g.R.CountedRead.left c.run_session-end.new.reader) (g.W.CountedWrite.held c.args.out.now) (g.W.CountedWrite.held c.run_session-end.new.out) x.0 c.run_session-end.ensures.session.0 c.run_session-end.result.script x.1 (seen_as true treed c.run_session-end.new.file)) (λ i. (fresh_logged c.new-file.result c.args.table c.args.limits head c.new-file.ensures steady uncounted begun.commits i, is i)) c.run_session-end.ensures.session.1
+      subst (λ (x : Seen × Result ℕ EndFault). IsSession c.args.manner (g.R.CountedRead.left c.args.reader.now) (g.R.CountedRead.left c.run_session-end.new.reader) (g.W.CountedWrite.held c.args.out.now) (g.W.CountedWrite.held c.run_session-end.new.out) x.0 c.run_session-end.ensures.session.0 c.run_session-end.result.script x.1 (seen_as true treed c.run_session-end.new.file)) (λ i. (fresh_logged c.new-file.result c.args.table c.args.limits head c.new-file.ensures steady uncounted begun.commits begun.doubt i, is i)) c.run_session-end.ensures.session.1
 
   abbrev kept : MakesCommits (logged_file (table_contents c.args.table) c.args.limits c.args.table.pages.failures head) c.run_session-end.ensures.session.0
   kept = made (table_contents c.args.table) c.args.limits c.args.table.pages.failures head c.args.manner _ _ _ _ c.run_session-end.ensures.session.0 c.run_session-end.result.script ended (seen_as true treed c.run_session-end.new.file) session
@@ -80,14 +90,14 @@ module _ (g : given.Over) (c : After-abandon-table g) (steady : IsTrue c.args.ta
   table_steady : IsTrue c.abandon-table.result.pages.steady
   table_steady = ap (λ (t : TableView). t.pages.steady) c.abandon-table.ensures ∙ file_steady
 
-  moves : MovesBeside c.args.table c.abandon-table.result
-  moves = subst (λ (x : TableView × TableView). MovesBeside x.0 x.1) (λ i. (ap (λ (f : OpenFile TableView). f.table) c.new-file.ensures i, sym c.abandon-table.ensures i)) c.run_session-end.ensures.moves
+  moves : IsKeptBeside c.args.table c.abandon-table.result
+  moves = subst (λ (x : TableView × TableView). IsKeptBeside x.0 x.1) (λ i. (ap (λ (f : OpenFile TableView). f.table) c.new-file.ensures i, sym c.abandon-table.ensures i)) c.run_session-end.ensures.moves
 
   same_file : file_of c.abandon-table.result.pages.opening ≡ file_of c.args.table.pages.opening
-  same_file = (opening_kept c.args.table c.abandon-table.result moves.0).0
+  same_file = (opening_kept c.args.table c.abandon-table.result moves).0
 
   still_logged : c.abandon-table.result.pages.opening.logged ≡ true
-  still_logged = (opening_kept c.args.table c.abandon-table.result moves.0).1 ∙ begun.logged
+  still_logged = (opening_kept c.args.table c.abandon-table.result moves).1 ∙ begun.logged
 
   commits : c.abandon-table.result.pages.opening.commits ≡ (head_line (file_of c.args.table.pages.opening) ∷ []) ∷ kept.units
   commits =
@@ -95,11 +105,12 @@ module _ (g : given.Over) (c : After-abandon-table g) (steady : IsTrue c.args.ta
       ∙ sym (logged_commits c.run_session-end.new.file file_steady)
       ∙ new_commits (table_contents c.args.table) c.args.limits c.args.table.pages.failures head c.args.manner _ _ _ _ c.run_session-end.ensures.session.0 c.run_session-end.result.script ended (seen_as true treed c.run_session-end.new.file) session
 
-  doubt : DoubtSays [] c.abandon-table.result.pages.opening.doubt
-  doubt = doubt_kept c.args.table.pages.opening.doubt c.abandon-table.result.pages.opening.doubt begun.doubt moves.1
+  doubt : DoubtIs c.abandon-table.result.pages.opening.doubt (in_doubt kept.doubted)
+  doubt = subst (λ (d : List ℕ). DoubtIs d (in_doubt kept.doubted)) (sym (ap (λ (t : TableView). t.pages.opening.doubt) c.abandon-table.ensures ∙ sym (logged_doubt c.run_session-end.new.file file_steady) ∙ new_doubt (table_contents c.args.table) c.args.limits c.args.table.pages.failures head c.args.manner _ _ _ _ c.run_session-end.ensures.session.0 c.run_session-end.result.script ended (seen_as true treed c.run_session-end.new.file) session))
+      (doubt_is (logged_file (table_contents c.args.table) c.args.limits c.args.table.pages.failures head) c.run_session-end.ensures.session.0 kept refl)
 
   order : c.abandon-table.result.tree.order ≡ c.args.table.tree.order
-  order = order_kept c.args.table c.abandon-table.result moves.0
+  order = order_kept c.args.table c.abandon-table.result moves
 
 pub returns-in-Ok-clause-session : goal.returns-in-Ok-clause-session
 returns-in-Ok-clause-session g c steady uncounted begun within_limit =
@@ -129,8 +140,8 @@ returns-in-Ok-clause-session g c steady uncounted begun within_limit =
       };
       made = k;
       records = records g here steady uncounted begun ended c.in-Ok.is;
-      any_moment = λ f since. ended_finds_all c.args.table.tree.order contents file holds opening f k.units k.kept (table_contents c.abandon-table.result) records_are (same_file g here steady uncounted begun ended c.in-Ok.is) (still_logged g here steady uncounted begun ended c.in-Ok.is) (commits g here steady uncounted begun ended c.in-Ok.is) (doubt g here steady uncounted begun ended c.in-Ok.is) k.says (left f since);
-      lasts = λ f now. each_finds c.args.table.tree.order contents file holds opening f k.units k.kept (table_contents c.abandon-table.result) records_are (same_file g here steady uncounted begun ended c.in-Ok.is) (still_logged g here steady uncounted begun ended c.in-Ok.is) (commits g here steady uncounted begun ended c.in-Ok.is) (doubt g here steady uncounted begun ended c.in-Ok.is) k.says (left f (g.met.D.Disk.counts_now c.close_logged.result.disk 0 f (omega arith) now)) (subst (λ (n : ℕ). LosesNone opening n (table_contents c.abandon-table.result) f) order_is (c.close_logged.ensures.lasts tabled f now));
+      any_moment = λ f since. ended_finds_all c.args.table.tree.order contents file holds opening f k.units k.kept (in_doubt k.doubted) (table_contents c.abandon-table.result) records_are (same_file g here steady uncounted begun ended c.in-Ok.is) (still_logged g here steady uncounted begun ended c.in-Ok.is) (commits g here steady uncounted begun ended c.in-Ok.is) (doubt g here steady uncounted begun ended c.in-Ok.is) k.says (left f since);
+      lasts = λ f now. each_finds c.args.table.tree.order contents file holds opening f k.units k.kept (in_doubt k.doubted) (table_contents c.abandon-table.result) records_are (same_file g here steady uncounted begun ended c.in-Ok.is) (still_logged g here steady uncounted begun ended c.in-Ok.is) (commits g here steady uncounted begun ended c.in-Ok.is) (doubt g here steady uncounted begun ended c.in-Ok.is) k.says (left f (g.met.D.Disk.counts_now c.close_logged.result.disk 0 f (omega arith) now)) (subst (λ (n : ℕ). LosesNone opening n (table_contents c.abandon-table.result) f) order_is (c.close_logged.ensures.lasts tabled f now));
       closed = λ none. subst (λ (x : ℕ × Contents). IsSettledWith d x.0 x.1 c.close_logged.result.disk) (λ i. (order_is i, records_are i)) (c.close_logged.ensures.closed tabled none);
     }
 
@@ -159,7 +170,7 @@ returns-in-Err-clause-session g c steady uncounted begun within_limit =
       };
       made = k;
       records = tt;
-      any_moment = λ f since. opening_finds c.args.table.tree.order contents file holds opening f k.units k.kept (same_file g here steady uncounted begun ended c.in-Err.is) (still_logged g here steady uncounted begun ended c.in-Err.is) (commits g here steady uncounted begun ended c.in-Err.is) (doubt g here steady uncounted begun ended c.in-Err.is) k.says (c.give_back.ensures.commits tabled f since);
-      lasts = λ f now. each_finds c.args.table.tree.order contents file holds opening f k.units k.kept (overlay contents (writes_in_turn k.kept)) refl (same_file g here steady uncounted begun ended c.in-Err.is) (still_logged g here steady uncounted begun ended c.in-Err.is) (commits g here steady uncounted begun ended c.in-Err.is) (doubt g here steady uncounted begun ended c.in-Err.is) k.says (inl (inl (c.give_back.ensures.commits tabled f (g.met.D.Disk.counts_now c.give_back.result 0 f (omega arith) now)))) (inl (c.give_back.ensures.lasts tabled f now));
+      any_moment = λ f since. opening_finds c.args.table.tree.order contents file holds opening f k.units k.kept (in_doubt k.doubted) (same_file g here steady uncounted begun ended c.in-Err.is) (still_logged g here steady uncounted begun ended c.in-Err.is) (commits g here steady uncounted begun ended c.in-Err.is) (doubt g here steady uncounted begun ended c.in-Err.is) k.says (c.give_back.ensures.commits tabled f since);
+      lasts = λ f now. each_finds c.args.table.tree.order contents file holds opening f k.units k.kept (in_doubt k.doubted) (overlay contents (writes_in_turn k.kept)) refl (same_file g here steady uncounted begun ended c.in-Err.is) (still_logged g here steady uncounted begun ended c.in-Err.is) (commits g here steady uncounted begun ended c.in-Err.is) (doubt g here steady uncounted begun ended c.in-Err.is) k.says (inl (inl (c.give_back.ensures.commits tabled f (g.met.D.Disk.counts_now c.give_back.result 0 f (omega arith) now)))) (inl (c.give_back.ensures.lasts tabled f now));
       closed = tt;
     }

@@ -1,11 +1,17 @@
 use Rattle.std.proofs.Common.{◌≡◌, Ok, Some, rules}
-use Rattle.recfile.proofs.OverlayFaultLemmas.{no_command, one_command}
+use Rattle.std.specs.List.{All}
+use Rattle.std.proofs.lemmas.Result.{IfErr-weaker}
+use Rattle.recfile.specs.Beside.{IsOverlayFault}
+use Rattle.recfile.specs.Overlaid.{IsLogCommand, line_entries}
+use Rattle.recfile.proofs.OverlayFaultLemmas.{no_command, one_command, overlay_part}
 use Rattle.recfile.proofs.overlaying.overlay_line.Goals as goal
 
 pub returns-in-Ok-Some-clause-refused : goal.returns-in-Ok-Some-clause-refused
-returns-in-Ok-Some-clause-refused g c sound all =
+returns-in-Ok-Some-clause-refused g c sound =
     let is : c.args.said.now ≡ Ok (Some c.in-Ok-Some.command) = search rules in
-    c.overlay_one.ensures.refused sound (one_command c.args.said.now c.in-Ok-Some.command is all)
+    IfErr-weaker c.overlay_one.result (IsOverlayFault (IsLogCommand (Ok c.in-Ok-Some.command))) (IsOverlayFault (All IsLogCommand (line_entries c.args.said.now)))
+    (λ fault. overlay_part (IsLogCommand (Ok c.in-Ok-Some.command)) (All IsLogCommand (line_entries c.args.said.now)) fault (one_command c.args.said.now c.in-Ok-Some.command is))
+    (c.overlay_one.ensures.refused sound)
 
 pub returns-in-Err-clause-refused : goal.returns-in-Err-clause-refused
-returns-in-Err-clause-refused g c sound all = no_command c.args.said.now c.in-Err.field-0 c.in-Err.is all
+returns-in-Err-clause-refused g c sound = no_command c.args.said.now c.in-Err.field-0 c.in-Err.is

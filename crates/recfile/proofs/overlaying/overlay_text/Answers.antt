@@ -11,7 +11,10 @@ use Rattle.record_file.proofs.CommitLemmas.{overlay-append}
 use Rattle.recfile.specs.Overlaid.{IsLogCommand, line_entries, write_said, writes_said}
 use Rattle.recfile.proofs.ScriptRunLemmas.{keep-append, nothing_left}
 use Rattle.std.proofs.lemmas.Result.{err_from_is_err_and}
+use Rattle.rec_types.specs.Table.{counted}
 use Rattle.recfile.specs.Beside.{IsOverlayFault}
+use Rattle.recfile.specs.FileFaults.{fault_of_overlay, is_device, is_device_overlay}
+use Rattle.recfile.proofs.OverlayFaultLemmas.{overlay_part}
 use Rattle.recfile.specs.declared.overlaying.OverlayFault.{OverlayFault}
 use Rattle.recfile.proofs.overlaying.overlay_text.Goals as goal
 
@@ -64,9 +67,20 @@ pub returns-clause-logged : goal.returns-clause-logged
 returns-clause-logged g c = c.loop-rest.invariant.1 (subst (λ (es : List (Read Command)). All IsLogCommand es) (sym (nothing_left c.loop-rest.rest.now c.loop-rest-test.ensures)) (All-nil IsLogCommand))
 
 pub returns-in_err-overlay_line-clause-refused : goal.returns-in_err-overlay_line-clause-refused
-returns-in_err-overlay_line-clause-refused g c sound all =
+returns-in_err-overlay_line-clause-refused g c sound =
     let known = c.loop-rest.invariant in
     let cut = cut_entries c.loop-rest.rest.now c.next_line.result.0.now c.next_line.result.1.now c.read_line.result c.next_line.ensures.cut c.read_line.ensures in
     let p = err_from_is_err_and c.from_residual.result c.from_residual.ensures.1 in
-    let faults = c.in_err-overlay_line.ensures.refused (known.3 ∙ sound) (first_all (line_entries c.read_line.result) (entries_of c.next_line.result.1.now) (subst (λ (es : List (Read Command)). All IsLogCommand es) cut (known.2 all))) in
-    subst (λ (r : Result (Unit {0}) OverlayFault). IfErr r IsOverlayFault) (sym p.1) (subst IsOverlayFault (sym p.2) faults)
+    let Logged = All IsLogCommand (entries_of c.args.text.now) in
+    let faults = overlay_part (All IsLogCommand (line_entries c.read_line.result)) Logged c.in_err-overlay_line.field-0.0
+    (λ all. first_all (line_entries c.read_line.result) (entries_of c.next_line.result.1.now) (subst (λ (es : List (Read Command)). All IsLogCommand es) cut (known.2 all)))
+    (c.in_err-overlay_line.ensures.refused (known.3 ∙ sound)) in
+    subst (λ (r : Result (Unit {0}) OverlayFault). IfErr r (IsOverlayFault Logged)) (sym p.1) (subst (IsOverlayFault Logged) (sym p.2) faults)
+
+pub returns-in_err-overlay_line-clause-failures : goal.returns-in_err-overlay_line-clause-failures
+returns-in_err-overlay_line-clause-failures g c =
+    let t = g.T.TableState in
+    let p = err_from_is_err_and c.from_residual.result c.from_residual.ensures.1 in
+    c.in_err-overlay_line.ensures.failures
+    ∙ (λ i. counted (c.loop-rest.invariant.5 i) (is_device (fault_of_overlay (sym p.2 i))))
+    ∙ ap (λ (r : Result (Unit {0}) OverlayFault). counted (t.device_failures c.args.table.now) (is_device_overlay r)) (sym p.1)

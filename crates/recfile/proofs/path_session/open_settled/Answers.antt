@@ -1,4 +1,5 @@
-use Rattle.std.proofs.Common.{◌∙◌, Result, subst}
+use Rattle.std.proofs.Common.{◌∙◌, Result, refl, ap, subst}
+use Rattle.rec_types.specs.Table.{counted}
 use Rattle.recfile.specs.Settling.{PutsRight}
 use Rattle.recfile.specs.declared.file_fault.FileFault.{FileFault}
 use Rattle.recfile.proofs.path_session.open_settled.Goals as goal
@@ -13,5 +14,5 @@ returns-clause-settles g c =
       settled = c.settle-disk.result.0;
       right = right;
       again = c.in_ok-begin_again.ensures.again;
-      unfailed = c.in_ok-begin_again.ensures.fault.failures ∙ right.failures ∙ c.in_ok-disk.ensures.failures;
+      unfailed = c.in_ok-begin_again.ensures.fault.failures ∙ right.failures.failures ∙ ap (counted (g.P.Device.DiskState.failures c.in_ok-disk.disk)) (right.failures.once refl) ∙ c.in_ok-disk.ensures.failures;
     }

@@ -16,10 +16,12 @@ returns-then-durable g c =
     subst (λ (b : Bool). SessionOf b g.D.DiskState c.args.manner c.args.limits (g.R.CountedRead.left c.args.reader.now) (g.R.CountedRead.left c.run_durable.new.reader) (g.W.CountedWrite.held c.args.out.now) (g.W.CountedWrite.held c.run_durable.new.out) c.args.calls.now c.run_durable.new.calls c.args.disk end.unopened end.unclosed end.disk end.status) (sym c.if-durable.true) (record {
       unread = unread end.unopened g.R.CountedRead.left g.W.CountedWrite.held c.args.reader.now c.run_durable.new.reader c.args.out.now c.run_durable.new.out c.args.calls.now c.run_durable.new.calls end.status end.unclosed c.run_durable.ensures.unread;
       ran = c.run_durable.ensures.ran;
+      device = c.run_durable.ensures.device;
       own = c.run_durable.ensures.own;
       closed = c.run_durable.ensures.closed;
       first = c.run_durable.ensures.first;
       untouched = c.run_durable.ensures.untouched;
+      stopped = c.run_durable.ensures.stopped;
       session = c.run_durable.ensures.session;
     })
 

@@ -14,7 +14,7 @@ use Rattle.recfile.proofs.session.run_memory.Goals as goal
 
 -- what a sorted table shows
 abbrev sorted : Ghosts SortedState
-sorted = record { contents = λ t. t.contents; record_limit = λ t. t.limit; sound = λ _. true; device_failures = λ _. 0; memory_refusals = λ t. t.refusals; damages = λ _. no_damage; calls = λ t. t.calls; Source = Unit {0}; origin = λ _. tt; commits = λ _. [] }
+sorted = record { contents = λ t. t.contents; record_limit = λ t. t.limit; sound = λ _. true; device_failures = λ _. 0; memory_refusals = λ t. t.refusals; damages = λ _. no_damage; calls = λ t. t.calls; Source = Unit {0}; origin = λ _. tt; commits = λ _. []; doubt = λ _. [] }
 
 -- what a run sees of a new file over an empty table
 fresh : {T : Type 0} (t : Ghosts T) (f : OpenFile T) (table : T) (limits : Bounds) → f ≡ record { table = table; file = new_file (t.contents table) limits; log = [] }
@@ -32,6 +32,7 @@ fresh t f table limits is contents sound failures refusals damages calls =
       calls = calls i;
       logged = false;
       commits = [];
+      doubt = [];
     })
 
 untried : {A E : Type 0} (answer : Result A E) (unclosed : Option FileFault) → unclosed ≡ None → OnErr answer (unclosed ≡ None)

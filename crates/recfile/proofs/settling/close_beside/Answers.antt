@@ -1,6 +1,9 @@
-use Rattle.std.proofs.Common.{OnOk, Result, IsTrue, subst}
+use Rattle.std.proofs.Common.{◌∙◌, false, OnOk, Result, IsTrue, refl, ap, subst}
+use Rattle.std.specs.Result.{is_err}
+use Rattle.rec_types.specs.Table.{counted}
 use Rattle.btree_delete.specs.TableView.{table_contents}
-use Rattle.recfile.specs.Kept.{IsKept}
+use Rattle.recfile.specs.FileFaults.{is_device_answer}
+use Rattle.recfile.specs.Kept.{CountsClosing, IsKept}
 use Rattle.recfile.specs.LogOver.{HoldsRecords}
 use Rattle.recfile.specs.declared.file_fault.FileFault.{FileFault}
 use Rattle.recfile.proofs.KeptLemmas.{ok_wider}
@@ -34,3 +37,13 @@ pub returns-in-Ok-clause-settled : goal.returns-in-Ok-clause-settled
 returns-in-Ok-clause-settled g c steady =
     let here = (goal.at.returns-in-Ok-clause-settled g c).After-end_beside in
     ok_wider c.end_beside.result.1 _ _ (settled_with g.D.DiskState (g.met.D.Disk.counts_now) c.args.table.tree.order (table_contents c.args.table) c.close_table-disk.result.0 c.end_beside.result.0 (kept g here steady).settled (holds g here steady) c.end_beside.ensures.pages) c.end_beside.ensures.gone
+
+pub returns-in-Ok-clause-failures : goal.returns-in-Ok-clause-failures
+returns-in-Ok-clause-failures g c unsealed tail =
+    let before = c.args.table.pages.failures in
+    let closed = subst (λ (r : Result (Unit {0}) FileFault). CountsClosing before (is_err r) (is_device_answer r) (g.D.DiskState.failures c.close_table-disk.result.0)) c.in-Ok.is (c.close_table-disk.ensures.device unsealed tail) in
+    record {
+      again = false;
+      failures = c.end_beside.ensures.failures ∙ ap (λ n. counted n (is_device_answer c.end_beside.result.1)) (closed.failures ∙ ap (counted before) (closed.once refl));
+      once = λ ok. refl;
+    }

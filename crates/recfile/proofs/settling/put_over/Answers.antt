@@ -1,15 +1,19 @@
-use Rattle.std.proofs.Common.{◌≡◌, inl, inr, ⊎_elim, ◌<◌, true, IfErr, Result, codes, drop, length, sym, subst, ◌∙◌, rules}
+use Rattle.std.proofs.Common.{◌≡◌, inl, inr, ⊎_elim, ℕ, ◌<◌, true, false, List, [], ◌∷◌, IfErr, Result, codes, drop, length, refl, sym, subst, ◌∙◌, arith, rules}
 use Rattle.std.proofs.lemmas.Bool.{false≢true}
-use Rattle.std.proofs.lemmas.Result.{err_from_is_err_and}
+use Rattle.std.proofs.lemmas.Result.{IfErr-weaker, err_from_is_err_and}
 use Rattle.std.proofs.lemmas.Slice.Eq.{starts_is}
 use Rattle.std.specs.Cmp.{unsigned_Decides}
 use Rattle.std.specs.Cmp.Lexicographic.{pointwise_decides}
-use Rattle.recfile.specs.Beside.{IsSettlingFault}
-use Rattle.recfile.specs.LogOver.{IsHead}
+use Rattle.std.specs.List.{All}
+use Rattle.rec_types.specs.Contents.{Contents}
+use Rattle.command_text.specs.Script.{entries_of}
+use Rattle.recfile.specs.Beside.{IsUnput}
+use Rattle.recfile.specs.LogOver.{IsHead, IsLogOver, SayOver}
+use Rattle.recfile.specs.Overlaid.{IsLogCommand}
 use Rattle.recfile.specs.declared.file_fault.FileFault.{FileFault}
 use Rattle.recfile.proofs.KeptLemmas.{ok_wider}
-use Rattle.recfile.proofs.LogOverLemmas.{found_head, over_first}
-use Rattle.recfile.proofs.OverlayFaultLemmas.{settling_fault}
+use Rattle.recfile.proofs.LogOverLemmas.{found_head, found_some, over_first}
+use Rattle.recfile.proofs.OverlayFaultLemmas.{unput_fault, unput_part}
 use Rattle.recfile.proofs.settling.put_over.Given as given
 use Rattle.recfile.proofs.settling.put_over.Goals as goal
 use Rattle.recfile.proofs.settling.put_over.Goals.{After-eq}
@@ -24,11 +28,36 @@ module _ (g : given.Over) (c : After-eq g) where
       let tested : c.starts_with.result ≡ true = search rules in
       (drop 10 c.next_line.result.0.now, (starts_is unsigned_Decides c.next_line.result.0.now (codes "commits 1 ") c.starts_with.result c.starts_with.ensures.value).0 tested)
 
-pub returns-in_err-overlay_text-clause-found : goal.returns-in_err-overlay_text-clause-found
-returns-in_err-overlay_text-clause-found g c sound units are is records over =
-    let found = found_head c.args.head.now (g.T.TableState.contents c.args.table.now) records units c.args.text.now c.next_line.result.0.now c.next_line.result.1.now are is c.next_line.ensures.cut over in
+-- the records that a log of these units makes
+abbrev Over : List ℕ → Contents → List (List (List ℕ)) → Type 0
+Over head under units = (records : Contents) × IsLogOver head under records units
+
+no_bytes : (text : List ℕ) → length text ≡ 0 → text ≡ []
+no_bytes [] is = refl
+no_bytes (b ∷ bs) is = absurd (omega (arith, is))
+
+pub returns-then-is_empty-clause-fault : goal.returns-then-is_empty-clause-fault
+returns-then-is_empty-clause-fault g c sound units are is =
+    let none : length c.args.text.now ≡ 0 = search rules in
+    inr (refl, λ over. found_some c.args.head.now (g.T.TableState.contents c.args.table.now) over.0 units c.args.text.now is over.1 (no_bytes c.args.text.now none))
+
+pub returns-then-not-starts_with-clause-fault : goal.returns-then-not-starts_with-clause-fault
+returns-then-not-starts_with-clause-fault g c sound units are is = inr (
+  refl,
+  λ over.
+      let found = found_head c.args.head.now (g.T.TableState.contents c.args.table.now) over.0 units c.args.text.now c.next_line.result.0.now c.next_line.result.1.now are is c.next_line.ensures.cut over.1 in
+      let tested : c.starts_with.result ≡ false = search rules in
+      absurd (false≢true (sym tested ∙ (starts_is unsigned_Decides c.next_line.result.0.now (codes "commits 1 ") c.starts_with.result c.starts_with.ensures.value).1 found.0.0 found.0.1)),
+)
+
+pub returns-in_err-overlay_text-clause-fault : goal.returns-in_err-overlay_text-clause-fault
+returns-in_err-overlay_text-clause-fault g c sound units are is =
+    let under = g.T.TableState.contents c.args.table.now in
     let p = err_from_is_err_and c.from_residual.result c.from_residual.ensures.1 in
-    subst (λ (r : Result (Unit {0}) FileFault). IfErr r IsSettlingFault) (sym p.1) (settling_fault c.in_err-overlay_text.field-0.0 p.0 p.2 (c.in_err-overlay_text.ensures.refused sound found.1.0))
+    subst (λ (r : Result (Unit {0}) FileFault). IfErr r (IsUnput (Over c.args.head.now under units))) (sym p.1)
+    (unput_fault (All IsLogCommand (entries_of c.next_line.result.1.now)) (Over c.args.head.now under units) c.in_err-overlay_text.field-0.0 p.0 p.2
+    (λ over. (found_head c.args.head.now under over.0 units c.args.text.now c.next_line.result.0.now c.next_line.result.1.now are is c.next_line.ensures.cut over.1).1.0)
+    (c.in_err-overlay_text.ensures.refused sound))
 
 pub returns-then-eq-clause-over : goal.returns-then-eq-clause-over
 returns-then-eq-clause-over g c sound units are is =
@@ -41,12 +70,14 @@ returns-clause-over g c sound units are is =
     let here = (goal.at.returns-clause-over g c).After-eq in
     ok_wider c.put_unchanged.result _ _ (λ had. over_first c.args.head.now (g.T.TableState.contents c.args.table.now) (g.T.TableState.contents c.put_unchanged.new.table) units c.args.text.now c.next_line.result.0.now c.next_line.result.1.now are is (some g here) c.next_line.ensures.cut (is_head g here) had.0 (inr had.1)) (c.put_unchanged.ensures.over sound)
 
-pub returns-clause-found : goal.returns-clause-found
-returns-clause-found g c sound units are is records over =
-    let t = g.T.TableState in
-    let under = t.contents c.args.table.now in
-    let found = found_head c.args.head.now under records units c.args.text.now c.next_line.result.0.now c.next_line.result.1.now are is c.next_line.ensures.cut over in
+pub returns-clause-fault : goal.returns-clause-fault
+returns-clause-fault g c sound units are is =
+    let under = g.T.TableState.contents c.args.table.now in
+    IfErr-weaker c.put_unchanged.result (IsUnput (SayOver under (entries_of c.next_line.result.1.now) under)) (IsUnput (Over c.args.head.now under units))
+    (λ fault. unput_part (SayOver under (entries_of c.next_line.result.1.now) under) (Over c.args.head.now under units) fault (λ over.
+    let found = found_head c.args.head.now under over.0 units c.args.text.now c.next_line.result.0.now c.next_line.result.1.now are is c.next_line.ensures.cut over.1 in
     ⊎_elim
     (λ same. absurd (false≢true (sym c.if-eq.false ∙ c.eq.ensures ∙ (pointwise_decides unsigned_Decides c.next_line.result.0.now c.args.head.now).1 same)))
-    (λ none. c.put_unchanged.ensures.found sound (found.1.0, sym none ∙ found.1.1))
-    found.2
+    (λ none. (found.1.0, sym none ∙ found.1.1))
+    found.2))
+    (c.put_unchanged.ensures.fault sound)

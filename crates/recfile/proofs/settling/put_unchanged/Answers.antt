@@ -1,11 +1,16 @@
-use Rattle.std.proofs.Common.{◌≡◌, IsTrue, sym, ap, ◌∙◌}
+use Rattle.std.proofs.Common.{◌≡◌, IfErr, IsTrue, Result, inr, refl, sym, ap, subst, ◌∙◌}
+use Rattle.std.specs.List.{All}
 use Rattle.std.proofs.lemmas.Bool.{false≢true}
+use Rattle.std.proofs.lemmas.Result.{err_from_is_err_and}
 use Rattle.rec_types.specs.Contents.{Contents}
 use Rattle.command_text.specs.Script.{entries_of}
 use Rattle.record_file.specs.Durable.{overlay}
-use Rattle.recfile.specs.LogOver.{values_at}
-use Rattle.recfile.specs.Overlaid.{writes_said}
+use Rattle.recfile.specs.Beside.{IsUnput}
+use Rattle.recfile.specs.LogOver.{SayOver, values_at}
+use Rattle.recfile.specs.Overlaid.{IsLogCommand, writes_said}
+use Rattle.recfile.specs.declared.file_fault.FileFault.{FileFault}
 use Rattle.recfile.proofs.LogOverLemmas.{unchanged, values_decide}
+use Rattle.recfile.proofs.OverlayFaultLemmas.{unput_fault}
 use Rattle.recfile.proofs.settling.put_unchanged.Goals as goal
 
 pub returns-then-eq-clause-over : goal.returns-then-eq-clause-over
@@ -22,13 +27,25 @@ returns-then-eq-clause-over g c sound =
     let now : t.contents c.values_of-2.new.table ≡ overlay under es = c.values_of-2.ensures.same ∙ made in
     ((c.in_ok-overlay_text.ensures.logged, now), now ∙ unchanged under es still)
 
-pub returns-clause-found : goal.returns-clause-found
-returns-clause-found g c sound over =
+pub returns-clause-fault : goal.returns-clause-fault
+returns-clause-fault g c sound = inr (
+  refl,
+  λ over.
+      let t = g.T.TableState in
+      let under = t.contents c.args.table.now in
+      let es = writes_said (entries_of c.args.text.now) in
+      let mid : IsTrue (t.sound c.values_of.new.table) = c.values_of.ensures.sound ∙ sound in
+      let late : IsTrue (t.sound c.overlay_text.new.table) = c.overlay_text.ensures.sound ∙ mid in
+      let made : t.contents c.overlay_text.new.table ≡ overlay under es = c.in_ok-overlay_text.ensures.said mid ∙ ap (λ (m : Contents). overlay m es) c.values_of.ensures.same in
+      let same = c.in_ok-before.ensures.values sound ∙ ap (λ (m : Contents). values_at m es) (over.1 ∙ sym made) ∙ sym (c.in_ok-after.ensures.values late) in
+      absurd (false≢true (sym c.if-eq.false ∙ c.eq.ensures ∙ (values_decide c.in_ok-before.before.items c.in_ok-after.after.items).1 same)),
+)
+
+pub returns-in_err-overlay_text-clause-fault : goal.returns-in_err-overlay_text-clause-fault
+returns-in_err-overlay_text-clause-fault g c sound =
     let t = g.T.TableState in
     let under = t.contents c.args.table.now in
-    let es = writes_said (entries_of c.args.text.now) in
-    let mid : IsTrue (t.sound c.values_of.new.table) = c.values_of.ensures.sound ∙ sound in
-    let late : IsTrue (t.sound c.overlay_text.new.table) = c.overlay_text.ensures.sound ∙ mid in
-    let made : t.contents c.overlay_text.new.table ≡ overlay under es = c.in_ok-overlay_text.ensures.said mid ∙ ap (λ (m : Contents). overlay m es) c.values_of.ensures.same in
-    let same = c.in_ok-before.ensures.values sound ∙ ap (λ (m : Contents). values_at m es) (over.1 ∙ sym made) ∙ sym (c.in_ok-after.ensures.values late) in
-    absurd (false≢true (sym c.if-eq.false ∙ c.eq.ensures ∙ (values_decide c.in_ok-before.before.items c.in_ok-after.after.items).1 same))
+    let es = entries_of c.args.text.now in
+    let p = err_from_is_err_and c.from_residual-in_err-overlay_text.result c.from_residual-in_err-overlay_text.ensures.1 in
+    subst (λ (r : Result (Unit {0}) FileFault). IfErr r (IsUnput (SayOver under es under))) (sym p.1)
+    (unput_fault (All IsLogCommand es) (SayOver under es under) c.in_err-overlay_text.field-0.0 p.0 p.2 (λ over. over.0) (c.in_err-overlay_text.ensures.refused (c.values_of.ensures.sound ∙ sound)))

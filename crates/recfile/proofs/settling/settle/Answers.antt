@@ -1,16 +1,24 @@
-use Rattle.std.proofs.Common.{◌≡◌, ◌∙◌, ℕ, List, Option, Some, None, MatchOption, Result, IsTrue, rules, refl, sym, ap, subst}
+use Rattle.std.proofs.Common.{◌≡◌, ◌∙◌, inl, inr, ℕ, false, List, Option, Some, None, MatchOption, Result, Err, IfErr, IsSome, IsTrue, rules, refl, sym, ap, subst}
+use Rattle.std.proofs.lemmas.Result.{IfErr-weaker}
+use Rattle.std.specs.Result.{is_err}
 use Rattle.rec_types.specs.Contents.{Contents}
+use Rattle.rec_types.specs.Table.{counted}
+use Rattle.page_journal.specs.declared.seal_state.SealState.TheVariants as states
 use Rattle.page_journal.specs.Files.{PageFile, Files, recovered}
 use Rattle.page_journal.specs.Crash.{IsSettled}
 use Rattle.page_journal.specs.Logging.{HasLog, IsTextOf}
 use Rattle.page_journal.specs.LoggedStores.{commits_in}
 use Rattle.page_journal.specs.KeptStores.{KeptStored}
-use Rattle.recfile.specs.Beside.{LeavesFiles}
+use Rattle.recfile.specs.Beside.{IsSettledWith, IsSettlingFault, LeavesFiles}
+use Rattle.recfile.specs.FileFaults.{is_device, is_device_answer}
+use Rattle.recfile.specs.Kept.{CountsClosing}
 use Rattle.recfile.specs.LogOver.{Finds, FindsLog, HoldsRecords, head_line}
-use Rattle.recfile.specs.Settling.{PutsRight}
+use Rattle.recfile.specs.Settling.{IsUnsettled, PutsRight}
 use Rattle.recfile.specs.declared.file_fault.FileFault.{FileFault}
-use Rattle.recfile.proofs.KeptLemmas.{always, ok_wider}
-use Rattle.recfile.proofs.SettlingLemmas.{files_find, recovery_commits, recovery_journal, recovery_settles, still_unlogged, store_commits, store_settles, unlogged_leaves, only_err}
+use Rattle.recfile.proofs.ClosingCountLemmas.{device_of_recovery, device_of_store}
+use Rattle.recfile.proofs.KeptLemmas.{always, not_recovered, ok_wider}
+use Rattle.recfile.proofs.KeptOnceLemmas.{finds_once, finds_order}
+use Rattle.recfile.proofs.SettlingLemmas.{IsStop, files_find, recovery_commits, recovery_settles, still_unlogged, store_commits, store_outside, unlogged_leaves, only_err}
 use Rattle.recfile.proofs.settling.settle.Given as given
 use Rattle.recfile.proofs.settling.settle.Goals as goal
 use Rattle.recfile.proofs.settling.settle.Goals.{After-found_commits}
@@ -18,6 +26,7 @@ use Rattle.recfile.proofs.settling.settle.Goals.{After-found_commits}
 pub returns-in-Err : goal.returns-in-Err
 returns-in-Err g c =
     let began = g.D.DiskState.began c.args.disk in
+    let before = g.D.DiskState.failures c.args.disk in
     record {
       kept = λ st order records finds left since.
           let stands = c.in-Err.ensures.stopped st left since in
@@ -27,9 +36,13 @@ returns-in-Err g c =
       logged = λ st some. tt;
       alone = λ st none. tt;
       bad_commits = λ st bad. absurd (recovery_commits c.in-Err.fault c.from.result c.from.ensures (only_err bad));
-      bad_journal = λ st none bad. c.in-Err.ensures.bad_journal st (recovery_journal c.in-Err.fault c.from.result c.from.ensures (only_err bad));
+      fault = λ st. inl (not_recovered began c.in-Err.fault c.from.result c.from.ensures (c.in-Err.ensures.bad_journal st));
       bare = λ st. tt;
-      failures = tt;
+      failures = record {
+        again = false;
+        failures = c.in-Err.ensures.device ∙ ap (counted before) (device_of_recovery c.in-Err.fault) ∙ ap (λ (f : FileFault). counted before (is_device f)) (sym c.from.ensures);
+        once = λ never. absurd (cc never);
+      };
       steady = tt;
     }
 
@@ -43,6 +56,9 @@ module _ (g : given.Over) (c : After-found_commits g) where
 
   log : c.found_commits.new.self.log ≡ None
   log = ap (λ (s : KeptStored _). s.log) c.found_commits.ensures.rest ∙ ap (λ (s : KeptStored _). s.log) c.in-Ok.ensures.opened
+
+  state : c.found_commits.new.self.state ≡ states.Unsealed
+  state = ap (λ (s : KeptStored _). s.state) c.found_commits.ensures.rest ∙ ap (λ (s : KeptStored _). s.state) c.in-Ok.ensures.opened
 
   began : g.D.DiskState.began c.found_commits.new.self.disk ≡ first
   began = c.found_commits.ensures.opened.1 ∙ c.in-Ok.ensures.began
@@ -80,9 +96,13 @@ returns-in-Ok-None g c =
       logged = λ st some. absurd (some (none st));
       alone = λ st was. (settled st, keeps st);
       bad_commits = λ st bad. absurd (cc bad);
-      bad_journal = λ st was bad. absurd (cc bad);
+      fault = λ st. tt;
       bare = λ st. (subst (λ (m : PageFile). IsSettled d m new) (sym (settled st).seen) (settled st), c.keep_alone.ensures.log (steady g here ∙ st));
-      failures = ap d.failures c.keep_alone.ensures.same ∙ c.in-Ok-None.ensures.failures ∙ c.in-Ok.ensures.failures;
+      failures = record {
+        again = false;
+        failures = ap d.failures c.keep_alone.ensures.same ∙ c.in-Ok-None.ensures.failures ∙ c.in-Ok.ensures.failures;
+        once = λ ok. refl;
+      };
       steady = ap d.steady c.keep_alone.ensures.same ∙ steady g here;
     })
 
@@ -95,16 +115,23 @@ returns-in-Ok-Some g c =
     let is = began g here in
     let there : c.in-Ok-Some.field-0 ≡ Some c.in-Ok-Some.text = search rules in
     let some : IsTrue (d.steady c.args.disk) → HasLog (IsTextOf c.in-Ok-Some.text.items) first = λ st. subst (λ (f : Files). HasLog (IsTextOf c.in-Ok-Some.text.items) f) c.in-Ok.ensures.began (subst (λ o. MatchOption o ((d.began c.in-Ok.store.disk).commits.log ≡ None) (λ text. HasLog (IsTextOf text.items) (d.began c.in-Ok.store.disk))) there (c.in-Ok-Some.ensures.text (c.in-Ok.ensures.steady ∙ st))) in
+    let why : IsTrue (d.steady c.args.disk) → IfErr c.settle_file.result.1 (IsStop first) = λ st. subst (λ (f : Files). IfErr c.settle_file.result.1 (IsStop f)) is (c.settle_file.ensures.fault (steady g here ∙ st)) in
     record {
       kept = λ st order records finds left since. c.settle_file.ensures.kept (steady g here ∙ st) order records (subst (Finds order records) (sym is) finds) left since;
-      settled = λ st order records finds. c.settle_file.ensures.settled (steady g here ∙ st) order records (subst (Finds order records) (sym is) finds);
-      found = λ st order records finds. c.settle_file.ensures.found (steady g here ∙ st) order records (subst (Finds order records) (sym is) finds);
+      settled = λ st order records finds. ok_wider c.settle_file.result.1 _ _
+          (λ made.
+          let there = subst (Finds made.0 made.1) is made.2 in
+          subst (λ (x : ℕ × Contents). IsSettledWith d x.0 x.1 new) (λ i. (finds_order made.0 order made.1 records first there finds i, finds_once made.0 order made.1 records first there finds i)) made.3)
+          (c.settle_file.ensures.over (steady g here ∙ st));
+      found = λ st order records finds. IfErr-weaker c.settle_file.result.1 (IsStop first) IsSettlingFault (λ fault why. why.1 (order, records, finds)) (why st);
       logged = λ st there. ok_wider c.settle_file.result.1 _ _ (λ made. (made.0, made.1, subst (Finds made.0 made.1) is made.2)) (c.settle_file.ensures.over (steady g here ∙ st));
       alone = λ st none. absurd (cc (sym (some st).1 ∙ none));
       bad_commits = λ st bad left since. subst (λ (f : Files). LeavesFiles f left) is (c.settle_file.ensures.bad (steady g here ∙ st) bad left since);
-      bad_journal = λ st none bad. absurd (cc (sym (some st).1 ∙ none));
+      fault = λ st. IfErr-weaker c.settle_file.result.1 (IsStop first) (IsUnsettled first)
+          (λ fault told. inr (subst (λ (l : Option (List ℕ)). IsSome l) (sym (some st).1) refl, (c.in-Ok.ensures.file st).0, told.0))
+          (why st);
       bare = λ st. ok_wider c.settle_file.result.1 _ _ (λ made. (made.3.settled, made.3.no_log)) (c.settle_file.ensures.over (steady g here ∙ st));
-      failures = ok_wider c.settle_file.result.1 _ _ (λ same. same ∙ c.in-Ok-Some.ensures.failures ∙ c.in-Ok.ensures.failures) c.settle_file.ensures.failures;
+      failures = subst (λ n. CountsClosing n (is_err c.settle_file.result.1) (is_device_answer c.settle_file.result.1) (d.failures new)) (c.in-Ok-Some.ensures.failures ∙ c.in-Ok.ensures.failures) c.settle_file.ensures.failures;
       steady = always c.settle_file.result.1 _ (c.settle_file.ensures.steady ∙ steady g here);
     }
 
@@ -114,18 +141,26 @@ returns-in-Err-found_commits g c =
     let here = (goal.at.returns-in-Err-found_commits g c).After-found_commits in
     let first = d.began c.args.disk in
     let new = c.let_go.result.0 in
+    let outside = store_outside c.in-Err-found_commits.fault c.from-in-Err-found_commits.result c.from-in-Err-found_commits.ensures in
     let leaves : IsTrue (d.steady c.args.disk) → (left : Files) → d.left_since new 0 left → LeavesFiles first left = λ st left since.
     let old = still_unlogged (d.began c.found_commits.new.self.disk) c.found_commits.new.self.log (commits_in c.found_commits.new.self.log (d.seen c.found_commits.new.self.disk)) c.found_commits.new.self.doubt refl (log g here) in
     subst (λ (f : Files). LeavesFiles f left) (began g here) (unlogged_leaves (d.began c.found_commits.new.self.disk) left _ old.0 old.1 old.2 (c.let_go.ensures.old (steady g here ∙ st) left since)) in
     subst (λ (r : Result (Unit {0}) FileFault). PutsRight d c.args.disk r new) (sym c.let_go.ensures.fault) (record {
       kept = λ st order records finds left since. files_find order records first left finds (leaves st left since);
       settled = λ st order records finds. tt;
-      found = λ st order records finds. store_settles c.in-Err-found_commits.fault c.from-in-Err-found_commits.result c.from-in-Err-found_commits.ensures;
+      found = λ st order records finds. inl outside;
       logged = λ st some. tt;
       alone = λ st none. tt;
-      bad_commits = λ st bad. absurd ((store_commits c.in-Err-found_commits.fault c.from-in-Err-found_commits.result c.from-in-Err-found_commits.ensures).0 (only_err bad));
-      bad_journal = λ st none bad. absurd ((store_commits c.in-Err-found_commits.fault c.from-in-Err-found_commits.result c.from-in-Err-found_commits.ensures).1 (only_err bad));
+      bad_commits = λ st bad. absurd (store_commits c.in-Err-found_commits.fault c.from-in-Err-found_commits.result c.from-in-Err-found_commits.ensures (only_err bad));
+      fault = λ st. inl (inl outside);
       bare = λ st. tt;
-      failures = tt;
+      failures = record {
+        again = false;
+        failures = ap d.failures (c.let_go.ensures.same (λ sealed. absurd (cc (sym (state g here) ∙ sealed))))
+            ∙ c.in-Err-found_commits.ensures.failures
+            ∙ (λ i. counted (c.in-Ok.ensures.failures i) (device_of_store (Err c.in-Err-found_commits.fault) i))
+            ∙ ap (λ (f : FileFault). counted (d.failures c.args.disk) (is_device f)) (sym c.from-in-Err-found_commits.ensures);
+        once = λ never. absurd (cc never);
+      };
       steady = tt;
     })

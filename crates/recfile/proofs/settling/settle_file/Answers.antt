@@ -1,18 +1,27 @@
-use Rattle.std.proofs.Common.{◌≡◌, ◌∙◌, ◌≤◌, ℕ, List, false, IfErr, Result, IsTrue, sym, ap, subst}
+use Rattle.std.proofs.Common.{◌≡◌, ◌∙◌, ◌≤◌, ⊎_elim, inl, inr, ℕ, List, false, IfErr, Result, IsTrue, refl, sym, ap, subst}
+use Rattle.std.proofs.lemmas.Result.{IfErr-weaker}
+use Rattle.std.specs.Result.{is_err}
 use Rattle.rec_types.specs.Contents.{Contents}
-use Rattle.rec_types.specs.LimitBounds.{Bounds}
+use Rattle.rec_types.specs.LimitBounds.{Bounds, most_records}
+use Rattle.rec_types.specs.Table.{counted}
+use Rattle.page_store.specs.Guards.{Unsealed}
+use Rattle.page_journal.specs.KeptStores.{failures_with}
+use Rattle.btree_delete.specs.CleanFile.{IsFirst, is_device_fault}
 use Rattle.commit_paper.specs.Text.{units_of}
 use Rattle.page_journal.specs.Files.{PageFile, Files, recovered}
 use Rattle.page_journal.specs.LoggedStores.{commits_in}
 use Rattle.btree_delete.specs.TableView.{IsClosed, table_contents}
-use Rattle.recfile.specs.Beside.{IsHeadFault, IsSettledWith, IsSettlingFault, LeavesEnded}
-use Rattle.recfile.specs.Kept.{file_of}
+use Rattle.recfile.specs.Beside.{IsHeadFault, IsUnput, LeavesEnded}
+use Rattle.recfile.specs.FileFaults.{is_device, is_device_answer}
+use Rattle.recfile.specs.Kept.{CountsClosing, file_of}
+use Rattle.recfile.specs.Settling.{FindsAny}
 use Rattle.recfile.specs.LogOver.{Finds, HoldsRecords, IsLogOver, head_line}
 use Rattle.recfile.specs.declared.file_fault.FileFault.{FileFault}
+use Rattle.recfile.proofs.ClosingCountLemmas.{device_of_opening, disk_counts, unsealed, unused_guard}
 use Rattle.recfile.proofs.KeptLemmas.{ok_wider}
-use Rattle.recfile.proofs.LogOverLemmas.{over_once}
 use Rattle.recfile.proofs.OpenedLemmas.{can_be_opened}
-use Rattle.recfile.proofs.SettlingLemmas.{ended_finds, files_find, found_over, head_settles, over_found, still_unlogged, unlogged_leaves}
+use Rattle.recfile.proofs.OverlayFaultLemmas.{unput_part}
+use Rattle.recfile.proofs.SettlingLemmas.{IsStop, ended_finds, files_find, found_over, head_first, head_settles, opening_settles, over_found, still_unlogged, unlogged_leaves}
 use Rattle.recfile.proofs.settling.settle_file.Given as given
 use Rattle.recfile.proofs.settling.settle_file.Goals as goal
 use Rattle.recfile.proofs.settling.settle_file.Goals.{After-settle_table}
@@ -24,12 +33,66 @@ returns-in-Err-clause-kept g c steady order records finds left since =
     let is = still_unlogged (d.began c.args.store.disk) c.args.store.log (commits_in c.args.store.log (d.seen c.args.store.disk)) c.args.store.doubt stays.opening c.requires.unused.2 in
     files_find order records (d.began c.args.store.disk) left finds (unlogged_leaves (d.began c.args.store.disk) left _ is.0 is.1 is.2 (c.let_go.ensures.old (stays.steady ∙ steady) left since))
 
-pub returns-in-Err-clause-found : goal.returns-in-Err-clause-found
-returns-in-Err-clause-found g c steady order records finds =
+pub returns-in-Err-clause-failures : goal.returns-in-Err-clause-failures
+returns-in-Err-clause-failures g c =
+    let d = g.D.DiskState in
+    let old = c.args.store in
+    let new = c.head_of.new.store in
+    let unused = unused_guard old.state old.kept old.refusals c.requires.unused.0 c.requires.unused.1 in
+    let guard = c.head_of.ensures.stays.guard in
+    let same = c.let_go.ensures.same (unsealed new.state new.kept new.refusals (Unsealed 0) (guard ∙ unused) refl) in
+    subst (λ (r : Result (Unit {0}) FileFault). CountsClosing (d.failures old.disk) (is_err r) (is_device_answer r) (d.failures c.let_go.result.0)) (sym c.let_go.ensures.fault) (record {
+      again = false;
+      failures = ap d.failures same ∙ disk_counts old.state new.state old.kept new.kept (d.failures old.disk) old.refusals (d.failures new.disk) new.refusals (is_device c.in-Err.fault) unused guard c.in-Err.ensures.failures;
+      once = λ ok. refl;
+    })
+
+pub returns-clause-failures : goal.returns-clause-failures
+returns-clause-failures g c =
+    let d = g.D.DiskState in
+    let old = c.args.store in
+    let mid = c.head_of.new.store in
+    let new = c.in-Err-open_from.stop.store in
+    let fault = c.in-Err-open_from.stop.fault in
+    let unused = unused_guard old.state old.kept old.refusals c.requires.unused.0 c.requires.unused.1 in
+    let still = c.head_of.ensures.stays.guard ∙ unused in
+    let guard = c.in-Err-open_from.ensures.stays.guard in
+    let same = c.let_go-in-Err-open_from.ensures.same (unsealed new.state new.kept new.refusals (Unsealed 0) (guard ∙ still) refl) in
+    let before = disk_counts old.state mid.state old.kept mid.kept (d.failures old.disk) old.refusals (d.failures mid.disk) mid.refusals false unused c.head_of.ensures.stays.guard c.in-Ok.ensures.failures in
+    let after = disk_counts mid.state new.state mid.kept new.kept (d.failures mid.disk) mid.refusals (d.failures new.disk) new.refusals (is_device_fault fault) still guard c.in-Err-open_from.ensures.failures in
+    subst (λ (r : Result (Unit {0}) FileFault). CountsClosing (d.failures old.disk) (is_err r) (is_device_answer r) (d.failures c.let_go-in-Err-open_from.result.0)) (sym c.let_go-in-Err-open_from.ensures.fault) (record {
+      again = false;
+      failures = ap d.failures same ∙ after ∙ (λ i. counted (before i) (device_of_opening fault i)) ∙ ap (λ (f : FileFault). counted (d.failures old.disk) (is_device f)) (sym c.from.ensures);
+      once = λ ok. refl;
+    })
+
+pub returns-in-Err-clause-fault : goal.returns-in-Err-clause-fault
+returns-in-Err-clause-fault g c steady =
+    let file = g.D.DiskState.began c.args.store.disk in
+    let why = subst (λ (f : PageFile). IsHeadFault f.pages f.tail c.in-Err.fault) (c.requires.file steady).1 (c.in-Err.ensures.fault steady) in
+    subst (λ (r : Result (Unit {0}) FileFault). IfErr r (IsStop file)) (sym c.let_go.ensures.fault) (
+      inl (head_first (recovered file).pages (recovered file).tail most_records c.in-Err.fault why),
+      λ any. head_settles c.in-Err.fault any.0 any.2.under (recovered file) any.2.holds why,
+    )
+
+pub returns-clause-fault : goal.returns-clause-fault
+returns-clause-fault g c steady =
     let d = g.D.DiskState in
     let file = d.began c.args.store.disk in
-    subst (λ (r : Result (Unit {0}) FileFault). IfErr r IsSettlingFault) (sym c.let_go.ensures.fault)
-    (head_settles c.in-Err.fault order finds.under (recovered file) finds.holds (subst (λ (f : PageFile). IsHeadFault f.pages f.tail c.in-Err.fault) (c.requires.file steady).1 (c.in-Err.ensures.fault steady)))
+    let stays = c.head_of.ensures.stays in
+    let stop = c.in-Err-open_from.stop in
+    let main : (d.seen c.head_of.new.store.disk).main ≡ recovered file = (λ i. record { pages = stays.pages i; tail = stays.tail i }) ∙ (c.requires.file steady).1 in
+    let first = subst (λ (n : ℕ). IsFirst (recovered file).pages (recovered file).tail n stop.fault) (ap (λ (b : Bounds). b.records) c.greatest_limits.ensures)
+    (subst (λ (f : PageFile). IsFirst f.pages f.tail c.greatest_limits.result.records stop.fault) main (c.in-Err-open_from.ensures.fault (stays.steady ∙ steady))) in
+    subst (λ (r : Result (Unit {0}) FileFault). IfErr r (IsStop file)) (sym c.let_go-in-Err-open_from.ensures.fault) (
+      inl (inr (stop.fault, first, c.from.ensures)),
+      λ any.
+          let holds = any.2.holds in
+          opening_settles stop.fault c.from.result c.from.ensures
+          (c.in-Err-open_from.ensures.reopened (stays.steady ∙ steady) holds.1 any.2.under holds.0
+          (subst (λ (f : PageFile). IsClosed holds.0 f.pages f.tail holds.1 any.2.under) (sym main) holds.3)
+          (subst (λ (n : ℕ). holds.1.count ≤ n) (sym (ap (λ (b : Bounds). b.records) c.greatest_limits.ensures)) holds.4)),
+    )
 
 -- the table that was opened, over the file of the store
 module _ (g : given.Over) (c : After-settle_table g) (steady : IsTrue (g.D.DiskState.steady c.args.store.disk)) where
@@ -94,16 +157,6 @@ returns-in-Ok-open_from-clause-over g c steady =
     ))
     (c.settle_table.ensures.over (table_steady g here steady) (units_of text.0) text.2.1 text.2.0)
 
-pub returns-in-Ok-open_from-clause-settled : goal.returns-in-Ok-open_from-clause-settled
-returns-in-Ok-open_from-clause-settled g c steady order records finds =
-    let here = (goal.at.returns-in-Ok-open_from-clause-settled g c).After-settle_table in
-    let text = c.requires.text steady in
-    ok_wider c.settle_table.result.1 _ _
-    (λ made.
-    let same = over_once c.deref.result.now (table_contents c.in-Ok-open_from.table) made.0 records (units_of text.0) made.1 (over g here steady order records finds) in
-    subst (λ (x : ℕ × Contents). IsSettledWith g.D.DiskState x.0 x.1 c.settle_table.result.0) (λ i. ((found g here steady order finds.under finds.holds).0 i, same i)) made.2)
-    (c.settle_table.ensures.over (table_steady g here steady) (units_of text.0) text.2.1 text.2.0)
-
 pub returns-in-Ok-open_from-clause-kept : goal.returns-in-Ok-open_from-clause-kept
 returns-in-Ok-open_from-clause-kept g c steady order records finds left since =
     let here = (goal.at.returns-in-Ok-open_from-clause-kept g c).After-settle_table in
@@ -112,11 +165,32 @@ returns-in-Ok-open_from-clause-kept g c steady order records finds left since =
     let ended = c.settle_table.ensures.any_moment (table_steady g here steady) (units_of text.0) text.2.1 text.2.0 records (over g here steady order records finds) left since in
     ended_finds order records (began g here steady) left c.in-Ok-open_from.table.pages.opening text.0 is.0 is.1 is.2 text.1 finds (subst (λ (n : ℕ). LeavesEnded c.in-Ok-open_from.table.pages.opening n records left) (found g here steady order finds.under finds.holds).0 ended)
 
-pub returns-in-Ok-open_from-clause-found : goal.returns-in-Ok-open_from-clause-found
-returns-in-Ok-open_from-clause-found g c steady order records finds =
-    let here = (goal.at.returns-in-Ok-open_from-clause-found g c).After-settle_table in
+pub returns-in-Ok-open_from-clause-fault : goal.returns-in-Ok-open_from-clause-fault
+returns-in-Ok-open_from-clause-fault g c steady =
+    let here = (goal.at.returns-in-Ok-open_from-clause-fault g c).After-settle_table in
     let text = c.requires.text steady in
-    c.settle_table.ensures.found (table_steady g here steady) (units_of text.0) text.2.1 text.2.0 records (over g here steady order records finds)
+    let file = began g here steady in
+    let held = holds g here steady in
+    let Over = (records : Contents) × IsLogOver c.deref.result.now (table_contents c.in-Ok-open_from.table) records (units_of text.0) in
+    IfErr-weaker c.settle_table.result.1 (IsUnput Over) (IsStop file)
+    (λ fault why.
+    let unput = unput_part Over (FindsAny file) fault (λ any. (any.1, over g here steady any.0 any.1 any.2)) why in (
+      inr ((held.1, table_contents c.in-Ok-open_from.table, held.0, held.3, held.4), unput),
+      λ any. ⊎_elim (λ settling. settling) (λ log. absurd (log.1 any)) unput,
+    ))
+    (c.settle_table.ensures.fault (table_steady g here steady) (units_of text.0) text.2.1 text.2.0)
+
+pub returns-in-Ok-open_from-clause-failures : goal.returns-in-Ok-open_from-clause-failures
+returns-in-Ok-open_from-clause-failures g c =
+    let d = g.D.DiskState in
+    let old = c.args.store in
+    let mid = c.head_of.new.store in
+    let unused = unused_guard old.state old.kept old.refusals c.requires.unused.0 c.requires.unused.1 in
+    let guard = c.head_of.ensures.stays.guard in
+    let first : failures_with (d.failures old.disk) old.refusals ≡ d.failures old.disk = ap (failures_with (d.failures old.disk)) c.requires.unused.1 in
+    subst (λ n. CountsClosing n (is_err c.settle_table.result.1) (is_device_answer c.settle_table.result.1) (d.failures c.settle_table.result.0))
+    (c.in-Ok-open_from.ensures.stored.4 ∙ c.in-Ok.ensures.failures ∙ first)
+    (c.settle_table.ensures.failures (c.in-Ok-open_from.ensures.guard ∙ guard ∙ unused) c.in-Ok-open_from.ensures.no_tail)
 
 pub returns-clause-kept : goal.returns-clause-kept
 returns-clause-kept g c steady order records finds left since =

@@ -1,0 +1,86 @@
+-- What no session leaves whose commits are kept before they are answered.
+use Rattle.std.proofs.Common.{◌≡◌, ◌≢◌, ⊎_elim, ℕ, List, [], ◌∷◌, ◌++◌, length, Option, Some, None, option_map, Result, Ok, OnOk, refl, sym, ap, subst, ◌∙◌, arith, zero}
+use Rattle.std.proofs.lemmas.List.{append-nil, length-append}
+use Rattle.std.specs.FinMap as maps
+use Rattle.rec_types.specs.Contents.{Contents}
+use Rattle.rec_types.specs.LimitBounds.{Bounds}
+use Rattle.page_journal.specs.Files.{Files}
+use Rattle.page_journal.specs.History.{History, LeftSince, MayLeave}
+use Rattle.page_journal.specs.contracts.mem_disk.MemDiskDiskState.TheImpl.{ghosts}
+use Rattle.command_text.specs.Units.{Write}
+use Rattle.record_file.specs.Abstract.{File, new_file}
+use Rattle.record_file.specs.Durable.{overlay}
+use Rattle.record_file.specs.Runs.{Event, Run, Seen}
+use Rattle.record_file.proofs.CommitLemmas.{overlay-append}
+use Rattle.record_file.specs.Steps.{active_refusal, tx_refusal}
+use Rattle.record_file.specs.declared.refusal.Refusal.TheVariants as refusals
+use Rattle.tx_log.specs.LogState.{phase_of}
+use Rattle.tx_log.specs.Transactions.{Tx}
+use Rattle.std.specs.Ordering.{nat_cmp}
+use Rattle.recfile.specs.Beside.{IsSettledWith}
+use Rattle.recfile.specs.DurableSession.{AreFirstCommits, EndsDurably, FindsCommits, FindsEachCommit}
+use Rattle.recfile.specs.LogOver.{Finds}
+use Rattle.recfile.specs.Overlaid.{SayWrites, writes_in_turn}
+use Rattle.recfile.specs.SessionCommits.{IsInDoubt, MakesCommits, in_doubt}
+use Rattle.recfile.proofs.KeptOnceLemmas.{finds_once}
+
+-- all commits are found, where none is in doubt
+all_found : (order : ℕ) (contents : Contents) (kept doubted : List (List Write)) (c : Files) → doubted ≡ [] → FindsEachCommit order contents kept doubted c → Finds order (overlay contents (writes_in_turn kept)) c
+all_found order contents kept doubted c none found =
+    let all : found.0 ≡ kept = ⊎_elim (λ is. is) (λ is. is ∙ ap (λ (d : List (List Write)). kept ++ d) none ∙ append-nil kept) found.1 in
+    subst (λ (ks : List (List Write)). Finds order (overlay contents (writes_in_turn ks)) c) all found.2
+
+one : (es : List Write) → writes_in_turn (es ∷ []) ≡ es
+one es = append-nil es
+
+pub answered_lost : (order : ℕ) (contents : Contents) (kept doubted : List (List Write)) (es : List Write) (c : Files) → kept ≡ es ∷ [] → doubted ≡ [] → overlay contents es ≢ contents → FindsEachCommit order contents kept doubted c → Finds order contents c → ⊥
+answered_lost order contents kept doubted es c is none differ found other =
+    let here = all_found order contents kept doubted c none found in
+    differ (sym (ap (overlay contents) (ap writes_in_turn is ∙ one es)) ∙ finds_once order order (overlay contents (writes_in_turn kept)) contents c here other)
+
+-- of no commits the first ones are none
+no_first : (first rest : List (List Write)) → [] ≡ first ++ rest → first ≡ []
+no_first [] rest is = refl
+no_first (es ∷ first) rest is = absurd (omega (arith, ap length is))
+
+pub commit_made_up : (order : ℕ) (contents others : Contents) (kept doubted : List (List Write)) (c : Files) → kept ≡ [] → doubted ≡ [] → others ≢ contents → FindsCommits order contents kept doubted c → Finds order others c → ⊥
+commit_made_up order contents others kept doubted c none undoubted differ found other =
+    let first : found.0 ≡ [] = no_first found.0 found.1.0 (sym (ap (λ (x : List (List Write) × List (List Write)). x.0 ++ x.1) (λ i. (none i, undoubted i))) ∙ found.1.1) in
+    differ (finds_once order order others (overlay contents (writes_in_turn found.0)) c other found.2 ∙ ap (λ (ks : List (List Write)). overlay contents (writes_in_turn ks)) first)
+
+pub doubt_alone : (order : ℕ) (contents : Contents) (kept doubted : List (List Write)) (a b : List Write) (c : Files) → kept ≡ a ∷ [] → doubted ≡ b ∷ [] → overlay contents b ≢ overlay contents a → overlay contents b ≢ overlay (overlay contents a) b → FindsEachCommit order contents kept doubted c → Finds order (overlay contents b) c → ⊥
+doubt_alone order contents kept doubted a b c is doubt first both found other = ⊎_elim
+    (λ all. first (same ∙ ap (λ (ks : List (List Write)). overlay contents (writes_in_turn ks)) (all ∙ is) ∙ ap (overlay contents) (one a)))
+    (λ all. both (same ∙ ap (λ (ks : List (List Write)). overlay contents (writes_in_turn ks)) (all ∙ (λ i. is i ++ doubt i)) ∙ ap (overlay contents) (ap (λ (es : List Write). a ++ es) (one b)) ∙ overlay-append a b contents))
+    found.1
+  where
+    same : overlay contents b ≡ overlay contents (writes_in_turn found.0)
+    same = finds_once order order (overlay contents b) (overlay contents (writes_in_turn found.0)) c other found.2
+
+-- a run of no calls leaves what it began with
+unmoved : (events : List Event) → events ≡ [] → {old new : Seen} → Run old events new → new ≡ old
+unmoved [] none ran = ran
+unmoved (e ∷ events) none ran = absurd (cc none)
+
+-- no transaction of a file in which nothing was begun is asked to commit
+pub doubt_unbegun : (old : Seen) (text : List ℕ) (es : List Write) (contents : Contents) (limits : Bounds) → (doubt : IsInDoubt old text es) → old.file ≡ new_file contents limits → doubt.events ≡ [] → ⊥
+doubt_unbegun old text es contents limits doubt is none =
+    let same : doubt.mid.file ≡ new_file contents limits = ap (λ (s : Seen). s.file) (unmoved doubt.events none doubt.ran) ∙ is in
+    unasked (sym (ap (λ (o : Option Tx). active_refusal None (option_map phase_of o)) (maps.get-empty nat_cmp doubt.tx)) ∙ sym (ap (λ (f : File). tx_refusal f doubt.tx None) same) ∙ doubt.accepted)
+  where
+    unasked : Some refusals.NoSuchTx ≡ None → ⊥
+    unasked asked = absurd (cc asked)
+
+-- a commit that is kept is in the log
+pub kept_unlogged : (old new : Seen) (made : MakesCommits old new) (es : List Write) → made.kept ≡ es ∷ [] → new.commits ≡ old.commits → ⊥
+kept_unlogged old new made es is same =
+    some made.units made.kept made.says is (omega (arith, ap length (sym same ∙ made.commits), length-append old.commits made.units))
+  where
+    some : (units : List (List (List ℕ))) (kept : List (List Write)) → SayWrites units kept → kept ≡ es ∷ [] → length units ≡ 0 → ⊥
+    some [] [] say kept_is none = absurd (cc kept_is)
+    some [] (k ∷ kept) say kept_is none = absurd say
+    some (u ∷ units) kept say kept_is none = absurd (omega (arith, none))
+
+-- what holds where a result is Ok
+pub ok_of : {A E : Type 0} (answer : Result A E) (done : A) → answer ≡ Ok done → (P : Type 0) → OnOk answer P → P
+ok_of answer done is P on = subst (λ (r : Result _ _). OnOk r P) is on
