@@ -1,5 +1,5 @@
 -- What contracts see of a table in a tree.
-use Rattle.std.proofs.Common.{◌≡◌, ℕ, ◌≤◌, true, false, Option, Some, None, IsSome, IsTrue, Result, Ok, Err, IsOk, IfOk, MatchResult, List, [], length, refl, ap, sym, ◌∙◌, subst, arith}
+use Rattle.std.proofs.Common.{◌≡◌, ℕ, ◌≤◌, true, false, Option, Some, None, IsSome, IsTrue, Result, Ok, Err, IsOk, IfOk, IfErr, MatchResult, ◌⊎◌, inl, inr, List, [], length, refl, ap, sym, ◌∙◌, subst, arith}
 use Rattle.std.specs.FinMap as maps
 use Rattle.std.specs.FinMap.{empty_of_len}
 use Rattle.rec_types.specs.Contents.{Contents, set_to}
@@ -12,8 +12,10 @@ use Rattle.page_store.specs.PagesView.{PagesView}
 use Rattle.btree_node.specs.Lists.{Element, Ascends}
 use Rattle.btree_insert.specs.declared.tree.Tree.{Tree}
 use Rattle.btree_insert.specs.declared.tree.TreeFault.{TreeFault}
-use Rattle.btree_insert.specs.declared.tree.TreeFault.TheVariants.{Device as ReadFailed}
+use Rattle.btree_insert.specs.declared.tree.TreeFault.TheVariants.{Device as ReadFailed, Damaged as NoTreePage, Memory as NoMemory}
+use Rattle.btree_insert.specs.Faults.{AsksNoMemory}
 use Rattle.btree_insert.specs.Growth.{IsOutside}
+use Rattle.btree_insert.specs.Told.{TellsAll, TellsSome}
 use Rattle.btree_insert.specs.PageTrees.{Holds}
 use Rattle.btree_insert.specs.Contents.{lookup_in, set_in, contents_of}
 use Rattle.btree_insert.specs.Elements.{contents_at}
@@ -203,3 +205,33 @@ listed X items here now (Ok list) same is call steady =
     call steady2 held.es held.us held.fills.holds ∙ sym (entries-contents_of held.es held.fills.holds.ascends) ∙ ap maps.entries (sym (held_contents (at here.pages.pages) here.tree held.es held.us is.tree.order.1 held.fills.holds))
     ∙ ap (λ (t : TableView). maps.entries (table_contents t)) same
 listed X items here now (Err fault) same is call steady = tt
+
+-- and a sink that is told the records
+pub told_records : {F : Type 0} (told : List Element → Type 0) (stops : List Element → F → Type 0) (here now : TableView) (r : Result (Result (Unit {0}) F) TreeFault) → here ≡ now → IsTable here
+    → (IsTrue here.pages.steady → (es : List Element) → (us : List ℕ) → Holds (at here.pages.pages) here.tree es us → TellsAll ReadFailed told stops es r)
+    → IsTrue now.pages.steady → TellsAll Device told stops (maps.entries (table_contents now)) (table_answer r)
+told_records {F} told stops here now r same is call steady =
+    let steady2 = steady_here here now same steady in
+    let held = is.holds steady2 in
+    let entries_are : held.es ≡ maps.entries (table_contents now) = sym (entries-contents_of held.es held.fills.holds.ascends) ∙ ap maps.entries (sym (held_contents (at here.pages.pages) here.tree held.es held.us is.tree.order.1 held.fills.holds))
+    ∙ ap (λ (t : TableView). maps.entries (table_contents t)) same in
+    subst (λ (es : List Element). TellsAll Device told stops es (table_answer r)) entries_are (answered held.es r (call steady2 held.es held.us held.fills.holds))
+  where
+    answered : (es : List Element) (r : Result (Result (Unit {0}) F) TreeFault) → TellsAll ReadFailed told stops es r → TellsAll Device told stops es (table_answer r)
+    answered es (Ok (Ok ended)) is = is
+    answered es (Ok (Err stop)) is = is
+    answered es (Err ReadFailed) is = (refl, is.1)
+    answered es (Err (NoTreePage page)) is = let no = is.0 in absurd (cc)
+    answered es (Err NoMemory) is = let no = is.0 in absurd (cc)
+
+-- whatever the pages hold
+pub told_some : {F : Type 0} (told : List Element → Type 0) (stops : List Element → F → Type 0) (r : Result (Result (Unit {0}) F) TreeFault) → TellsSome told stops r → TellsSome told stops (table_answer r)
+told_some told stops (Ok taken) is = is
+told_some told stops (Err fault) is = is
+
+-- the faults where no memory is asked for
+pub looking_faults : {A : Type 0} (r : Result A TreeFault) → AsksNoMemory r → IfErr (table_answer r) (λ fault. (fault ≡ Device) ⊎ ((page : ℕ) × (fault ≡ Damaged page)))
+looking_faults (Ok x) asks = tt
+looking_faults (Err ReadFailed) asks = inl refl
+looking_faults (Err (NoTreePage page)) asks = inr (page, refl)
+looking_faults (Err NoMemory) asks = absurd (asks refl)

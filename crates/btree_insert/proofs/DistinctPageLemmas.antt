@@ -166,14 +166,12 @@ tree_apart spells one (suc (suc h)) p es us (n, below, spelled, some, body, us_i
       fan_apart spells one (TreeOf spells 1 1 (suc h)) at (λ s xs vs tree later. tree_apart spells one (suc h) s xs vs tree later) n.sons.items n.elements.items es below body.1 up,
     )
 
--- what a walk from the root has added to an empty list
-pub walked_there : (k : ℕ) (pages : PageMap) (t : Tree) (out es : List Element) (left' : ℕ) → k ≤ 16 → out ≡ [] → Adds (TreeOf (Spells k pages) 1 1 t.height t.root) unbounded out es t.used left' → IsThere (Spells k pages) t es
-walked_there k pages t out es left' small none adds =
-    let es_is : es ≡ adds.es = adds.added ∙ ap (λ zs. zs ++ adds.es) none in
-    subst (IsThere (Spells k pages) t) (sym es_is) (record {
-      us = adds.us;
-      tree = adds.here;
-      ascends = adds.between.ascends;
-      apart = tree_apart (Spells k pages) (spells_one k pages small) t.height t.root adds.es adds.us adds.here adds.between.ascends;
-      used = omega (arith, adds.fewer);
-    })
+-- what a walk from the root has told
+pub walked_there : (k : ℕ) (pages : PageMap) (t : Tree) (told : List Element → Type 0) (left' : ℕ) → k ≤ 16 → (walked : Adds (TreeOf (Spells k pages) 1 1 t.height t.root) unbounded told t.used left') → IsThere (Spells k pages) t walked.es
+walked_there k pages t told left' small adds = record {
+  us = adds.us;
+  tree = adds.here;
+  ascends = adds.between.ascends;
+  apart = tree_apart (Spells k pages) (spells_one k pages small) t.height t.root adds.es adds.us adds.here adds.between.ascends;
+  used = omega (arith, adds.fewer);
+}

@@ -18,6 +18,7 @@ pub mod OnePageLemmas
 pub mod LeafCutLemmas
 pub mod TreeClassLemmas
 pub mod ReachLemmas
+pub mod ToldLemmas
 pub mod ReadingLemmas
 pub mod LeadLemmas
 pub mod DistinctPageLemmas

@@ -12,7 +12,6 @@ use Rattle.btree_insert.specs.Reached.{Leads, LeadsFrom, Adds}
 use Rattle.btree_insert.proofs.SonsAroundLemmas.{Stands}
 use Rattle.btree_insert.proofs.PlaceLemmas.{over_trans, under_trans}
 use Rattle.btree_insert.proofs.HeadNodeLemmas.{kind_above}
-use Rattle.btree_insert.proofs.SonsLemmas.{added}
 
 -- what follows from a value of an answer
 pub if_ok : {X E : Type 0} (r : Result X E) (P Q : X → Type 0) → ((x : X) → P x → Q x) → IfOk r P → IfOk r Q
@@ -69,22 +68,22 @@ Between-join b xs m ys over under front back = record {
   };
 }
 
--- a leaf's elements were added
-pub adds_leaf : (spells : ℕ → Node → Type 0) (height p : ℕ) (b : Bounds) (n : Node) (out out' : List Element) (left left' : ℕ) → height ≡ 1 → spells p n → n.kind ≡ kind_of_level height → 0 < length n.elements.items → Ascends n.elements.items → AreWithin b n.elements.items
-    → out' ≡ out ++ n.elements.items → left' + 1 ≡ left → Adds (TreeOf spells 1 1 height p) b out out' left left'
-adds_leaf spells height p b n out out' left left' is spelled kind some up within out_is left_is = record {
+-- a leaf's elements were told
+pub adds_leaf : (spells : ℕ → Node → Type 0) (height p : ℕ) (b : Bounds) (n : Node) (told : List Element → Type 0) (left left' : ℕ) → height ≡ 1 → spells p n → n.kind ≡ kind_of_level height → 0 < length n.elements.items → Ascends n.elements.items → AreWithin b n.elements.items
+    → told n.elements.items → left' + 1 ≡ left → Adds (TreeOf spells 1 1 height p) b told left left'
+adds_leaf spells height p b n told left left' is spelled kind some up within took left_is = record {
   es = n.elements.items;
   us = p ∷ [];
   here = subst (λ x. TreeOf spells 1 1 x p n.elements.items (p ∷ [])) (sym is) (n, [], spelled, some, (kind ∙ ap kind_of_level is, refl, refl), refl);
   between = record { ascends = up; within = within };
-  added = out_is;
+  added = took;
   fewer = left_is;
 }
 
--- the elements below an inner page were added
-pub adds_inner : (spells : ℕ → Node → Type 0) (height h p : ℕ) (b : Bounds) (n : Node) (out out' : List Element) (left one_less left' : ℕ) → suc (suc h) ≡ height → spells p n → n.kind ≡ kind_of_level height → 0 < length n.elements.items → one_less + 1 ≡ left
-    → Adds (Fan (TreeOf spells 1 1 (suc h)) n.sons.items n.elements.items) b out out' one_less left' → Adds (TreeOf spells 1 1 height p) b out out' left left'
-adds_inner spells height h p b n out out' left one_less left' is spelled kind some left_is adds = record {
+-- the elements below an inner page were told
+pub adds_inner : (spells : ℕ → Node → Type 0) (height h p : ℕ) (b : Bounds) (n : Node) (told : List Element → Type 0) (left one_less left' : ℕ) → suc (suc h) ≡ height → spells p n → n.kind ≡ kind_of_level height → 0 < length n.elements.items → one_less + 1 ≡ left
+    → Adds (Fan (TreeOf spells 1 1 (suc h)) n.sons.items n.elements.items) b told one_less left' → Adds (TreeOf spells 1 1 height p) b told left left'
+adds_inner spells height h p b n told left one_less left' is spelled kind some left_is adds = record {
   es = adds.es;
   us = p ∷ adds.us;
   here = subst (λ x. TreeOf spells 1 1 x p adds.es (p ∷ adds.us)) is (n, adds.us, spelled, some, (kind ∙ ap kind_of_level (sym is) ∙ kind_above (suc (suc h)) (λ one. absurd (omega (arith, one))), adds.here), refl);
@@ -101,8 +100,8 @@ last_fan tree (s ∷ []) (e ∷ els) es us none size here = absurd (omega arith)
 last_fan tree (s ∷ (t ∷ ss)) els es us none size here = absurd (omega arith)
 
 -- those below the last son
-pub adds_last : (tree : Stands) (sons : List ℕ) (els : List Element) (b : Bounds) (out out' : List Element) (left left' : ℕ) → length els ≡ 0 → length sons ≡ length els + 1 → Adds (tree (get_or sons 0 0)) b out out' left left' → Adds (Fan tree sons els) b out out' left left'
-adds_last tree sons els b out out' left left' none size adds = record {
+pub adds_last : (tree : Stands) (sons : List ℕ) (els : List Element) (b : Bounds) (told : List Element → Type 0) (left left' : ℕ) → length els ≡ 0 → length sons ≡ length els + 1 → Adds (tree (get_or sons 0 0)) b told left left' → Adds (Fan tree sons els) b told left left'
+adds_last tree sons els b told left left' none size adds = record {
   es = adds.es;
   us = adds.us;
   here = last_fan tree sons els adds.es adds.us none size adds.here;
@@ -124,17 +123,17 @@ head_within b [] x some is between = absurd (omega arith)
 head_within b (e ∷ els) x some is between = (subst (λ (y : Element). Over b.low y.0) (sym is) between.within.over.0, subst (λ (y : Element). Under b.high y.0) (sym is) between.within.under.0)
 
 -- those below the first son, an element, and those below the other sons
-pub adds_more : (tree : Stands) (sons : List ℕ) (els : List Element) (x : Element) (b : Bounds) (out first second third : List Element) (l0 l1 l2 : ℕ) → 0 < length els → length sons ≡ length els + 1 → x ≡ get_or els 0 x → Between b els
-    → Adds (tree (get_or sons 0 0)) (record { low = b.low; high = Some x.0 }) out first l0 l1 → second ≡ first ++ x ∷ [] → Adds (Fan tree (drop 1 sons) (drop 1 els)) (record { low = Some x.0; high = b.high }) second third l1 l2
-    → Adds (Fan tree sons els) b out third l0 l2
-adds_more tree sons els x b out first second third l0 l1 l2 some size is between front one back =
+pub adds_more : (tree : Stands) (sons : List ℕ) (els : List Element) (x : Element) (b : Bounds) (first second all : List Element → Type 0) (l0 l1 l2 : ℕ) → 0 < length els → length sons ≡ length els + 1 → x ≡ get_or els 0 x → Between b els
+    → Adds (tree (get_or sons 0 0)) (record { low = b.low; high = Some x.0 }) first l0 l1 → ((xs ys : List Element) → first xs → second ys → all (xs ++ x ∷ ys)) → Adds (Fan tree (drop 1 sons) (drop 1 els)) (record { low = Some x.0; high = b.high }) second l1 l2
+    → Adds (Fan tree sons els) b all l0 l2
+adds_more tree sons els x b first second all l0 l1 l2 some size is between front join back =
     let bounds = head_within b els x some is between in
     record {
       es = front.es ++ x ∷ back.es;
       us = front.us ++ back.us;
       here = more_fan tree sons els front.es back.es x front.us back.us some size is front.here back.here;
       between = Between-join b front.es x back.es bounds.0 bounds.1 front.between back.between;
-      added = added out first second third front.es back.es (front.es ++ x ∷ back.es) x front.added one back.added refl;
+      added = join front.es back.es front.added back.added;
       fewer = omega (arith, front.fewer, back.fewer, length-append front.us back.us);
     }
 
@@ -156,11 +155,11 @@ leads_below k pages pages2 key low h q s b b2 found pages_is low_is q_is b_is le
     (subst (λ (x : ℕ). Leads (Spells k pages2) key x s b found) low_is
     (subst (λ (x : ℕ). Leads (Spells k pages2) key low x b found) q_is (subst (λ (x : Bounds). Leads (Spells k pages2) key low q x found) b_is leads)))
 
--- the elements below a page, added to a list
-pub adds_below : (k : ℕ) (pages pages2 : PageMap) (low h : ℕ) (sons sons2 : List ℕ) (els els2 : List Element) (b : Bounds) (out out' : List Element) (left left' : ℕ) → pages2 ≡ pages → low ≡ h → sons2 ≡ sons → els2 ≡ els
-    → Adds (Fan (TreeOf (Spells k pages2) 1 1 low) sons2 els2) b out out' left left' → Adds (Fan (TreeOf (Spells k pages) 1 1 h) sons els) b out out' left left'
-adds_below k pages pages2 low h sons sons2 els els2 b out out' left left' pages_is low_is sons_is els_is adds =
-    subst (λ (x : PageMap). Adds (Fan (TreeOf (Spells k x) 1 1 h) sons els) b out out' left left') pages_is
-    (subst (λ (x : ℕ). Adds (Fan (TreeOf (Spells k pages2) 1 1 x) sons els) b out out' left left') low_is
-    (subst (λ (x : List ℕ). Adds (Fan (TreeOf (Spells k pages2) 1 1 low) x els) b out out' left left') sons_is
-    (subst (λ (x : List Element). Adds (Fan (TreeOf (Spells k pages2) 1 1 low) sons2 x) b out out' left left') els_is adds)))
+-- the elements below a page that were told
+pub adds_below : (k : ℕ) (pages pages2 : PageMap) (low h : ℕ) (sons sons2 : List ℕ) (els els2 : List Element) (b : Bounds) (told : List Element → Type 0) (left left' : ℕ) → pages2 ≡ pages → low ≡ h → sons2 ≡ sons → els2 ≡ els
+    → Adds (Fan (TreeOf (Spells k pages2) 1 1 low) sons2 els2) b told left left' → Adds (Fan (TreeOf (Spells k pages) 1 1 h) sons els) b told left left'
+adds_below k pages pages2 low h sons sons2 els els2 b told left left' pages_is low_is sons_is els_is adds =
+    subst (λ (x : PageMap). Adds (Fan (TreeOf (Spells k x) 1 1 h) sons els) b told left left') pages_is
+    (subst (λ (x : ℕ). Adds (Fan (TreeOf (Spells k pages2) 1 1 x) sons els) b told left left') low_is
+    (subst (λ (x : List ℕ). Adds (Fan (TreeOf (Spells k pages2) 1 1 low) x els) b told left left') sons_is
+    (subst (λ (x : List Element). Adds (Fan (TreeOf (Spells k pages2) 1 1 low) sons2 x) b told left left') els_is adds)))

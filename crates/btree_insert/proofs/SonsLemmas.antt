@@ -1,10 +1,8 @@
 -- The sons of a page one after another.
-use Rattle.std.proofs.Common.{◌≡◌, ℕ, zero, suc, ◌+◌, ◌<◌, Bool, false, eqb, List, [], ◌∷◌, ◌++◌, Result, Ok, Err, MatchResult, length, get_or, take, drop, ap, sym, ◌∙◌, arith, append_assoc, length-append}
+use Rattle.std.proofs.Common.{◌≡◌, ℕ, zero, suc, ◌+◌, ◌<◌, Bool, false, eqb, List, [], ◌∷◌, ◌++◌, length, get_or, take, drop, ap, sym, ◌∙◌, arith, length-append}
 use Rattle.std.proofs.lemmas.Bool.Decides.{nat_tests}
 use Rattle.btree_node.specs.Lists.{Element}
 use Rattle.btree_node.specs.declared.node.Node.{Node}
-use Rattle.btree_insert.specs.declared.tree.TreeFault.{TreeFault}
-use Rattle.btree_insert.specs.Growth.{IsOutside}
 use Rattle.btree_insert.specs.PageTrees.{Fan, Body}
 use Rattle.btree_insert.proofs.SonsAroundLemmas.{Stands}
 
@@ -44,11 +42,6 @@ fan_first tree (s ∷ (t ∷ ss)) (e ∷ els) es us some (xs, ys, here, rest, fi
   us_is = us_is;
 }
 
--- what was added in three parts
-pub added : (out first second third xs ys es : List Element) (x : Element) → first ≡ out ++ xs → second ≡ first ++ x ∷ [] → third ≡ second ++ ys → es ≡ xs ++ x ∷ ys → third ≡ out ++ es
-added out first second third xs ys es x first_is second_is third_is es_is =
-    third_is ∙ ap (λ zs. zs ++ ys) (second_is ∙ ap (λ zs. zs ++ x ∷ []) first_is) ∙ append_assoc (out ++ xs) (x ∷ []) ys ∙ append_assoc out xs (x ∷ ys) ∙ ap (λ zs. out ++ zs) (sym es_is)
-
 -- the pages of a leaf and of an inner page
 pub one_page : (us : List ℕ) (p : ℕ) (below : List ℕ) → us ≡ p ∷ below → length us ≡ suc (length below)
 one_page us p below is = ap length is
@@ -56,11 +49,6 @@ one_page us p below is = ap length is
 -- the pages of two parts are as many as both
 pub pages_of_both : (us here rest : List ℕ) → us ≡ here ++ rest → length us ≡ length here + length rest
 pages_of_both us here rest is = ap length is ∙ length-append here rest
-
--- what follows from an answer that is no fault of the pages
-pub weaken : (r : Result (Unit {0}) TreeFault) (A B : Type 0) → (A → B) → MatchResult r (λ _. A) IsOutside → MatchResult r (λ _. B) IsOutside
-weaken (Ok x) A B follows is = follows is
-weaken (Err e) A B follows is = is
 
 -- the first element alone
 pub take_one : (els : List Element) (x : Element) → 0 < length els → x ≡ get_or els 0 x → take 1 els ≡ x ∷ []

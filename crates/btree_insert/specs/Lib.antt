@@ -13,3 +13,4 @@ pub mod Elements
 pub mod Examples
 pub mod Spelt
 pub mod Steps
+pub mod Told

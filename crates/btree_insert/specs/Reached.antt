@@ -1,5 +1,5 @@
 -- What a look-up, an insertion and a walk have gone through, over any pages.
-use Rattle.std.specs.Prelude.{◌≡◌, ℕ, zero, suc, ◌+◌, ◌<◌, ◌≤◌, ◌⊎◌, List, [], ◌++◌, length, Option, Some, None, slice_index_or}
+use Rattle.std.specs.Prelude.{◌≡◌, ℕ, zero, suc, ◌+◌, ◌<◌, ◌≤◌, ◌⊎◌, List, [], length, Option, Some, None, slice_index_or}
 use Rattle.btree_node.specs.declared.node.Node.{Node}
 use Rattle.btree_node.specs.Lists.{Element, Ascends, IsAt, IsPlace}
 use Rattle.btree_insert.specs.declared.bounds.Bounds.{Bounds}
@@ -25,13 +25,13 @@ abbrev pub LeadsFrom : (ℕ → Node → Type 0) → List ℕ → ℕ → ℕ �
 LeadsFrom spells key zero root found = found ≡ None
 LeadsFrom spells key (suc h) root found = Leads spells key (suc h) root unbounded found
 
--- elements that were added to a list, from pages of which so many were left: those of a tree, or of several, between the bounds
-pub record Adds (tree : List Element → List ℕ → Type 0) (bounds : Bounds) (old new : List Element) (left left' : ℕ) : Type 0 where
+-- elements that were told, from pages of which so many were left: those of a tree, or of several, between the bounds
+pub record Adds (tree : List Element → List ℕ → Type 0) (bounds : Bounds) (told : List Element → Type 0) (left left' : ℕ) : Type 0 where
   pub es : List Element
   pub us : List ℕ
   pub here : tree es us
   pub between : Between bounds es
-  pub added : new ≡ old ++ es
+  pub added : told es
   pub fewer : left' + length us ≡ left
 
 -- the pages hold a tree with these elements whose pages have one key at least, no page twice, and no more pages than it says. Its count is not looked at.

@@ -14,6 +14,7 @@ ghost use Rattle.btree_insert.specs.Elements.{elements_of, contents_at};
 ghost use Rattle.btree_insert.specs.Examples.{ax, by, cz, tree_of, three_pages, uneven_pages, shared_pages, equal_pages};
 ghost use Rattle.btree_insert.specs.Inserted.{Inserted};
 ghost use Rattle.btree_insert.specs.PageTrees.{Holds};
+ghost use Rattle.btree_insert.specs.Told.{TellsAll, TellsSome};
 ghost use Rattle.btree_insert.specs.declared.tree.Tree.{Tree};
 ghost use Rattle.btree_insert.specs.declared.tree.TreeFault.{TreeFault};
 ghost use Rattle.btree_insert.specs.PagesGrown.{pages_change};
@@ -99,4 +100,16 @@ pub fn readings()
         → Reads {A = ℕ} 1 v (Err TreeFault.Device) (record v { reads = v.reads + 1 }) → ⊥ }
     ensures changed { (v : PagesView) → v.changed ≡ false
         → Reads {A = ℕ} 1 v (Ok 0) (record v { changed = true }) → ⊥ }
+{}
+
+/// What a sink is told up to a fault of the device: a front of the elements, and not all of them. No other fault ends a telling.
+pub fn tellings()
+    ensures front { TellsAll {F = ℕ} TreeFault.Device (λ es. es ≡ ax ∷ []) (λ _ _. ⊥)
+        (ax ∷ by ∷ []) (Err TreeFault.Device) }
+    ensures whole { TellsAll {F = ℕ} TreeFault.Device (λ es. es ≡ ax ∷ by ∷ []) (λ _ _. ⊥)
+        (ax ∷ by ∷ []) (Err TreeFault.Device) → ⊥ }
+    ensures damaged { (n : ℕ) → TellsAll {F = ℕ} TreeFault.Device (λ _. Unit {0}) (λ _ _. Unit {0})
+        (ax ∷ []) (Err (TreeFault.Damaged n)) → ⊥ }
+    ensures some { TellsSome {E = TreeFault} {F = ℕ} (λ es. es ≡ ax ∷ []) (λ _ _. ⊥)
+        (Err (TreeFault.Damaged 1)) }
 {}

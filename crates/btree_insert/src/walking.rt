@@ -7,15 +7,49 @@ ghost use Rattle.btree_insert.specs.PageTrees.{Spells, Fan, TreeOf, TreeAt, Hold
 ghost use Rattle.btree_insert.specs.Reached.{Adds, Walks};
 ghost use Rattle.btree_node.specs.Layout.{IsSmallOrder};
 ghost use Rattle.btree_insert.specs.Sizes.{IsTree};
-ghost use Rattle.btree_insert.specs.Edits.{Reads};
+ghost use Rattle.btree_insert.specs.Edits.{Reads, Looks};
+ghost use Rattle.btree_insert.specs.Told.{TellsAll, TellsSome};
 
 use crate::bounds::Bounds;
 use crate::reading::{kind_of_level, read_into};
+use crate::sink::ElementSink;
 use crate::tree::{Tree, TreeFault};
 use btree_node::Node;
 use page_store::{Pages, Store};
 use rec_types::{Key, Memory, Record};
 use std::alloc::Global;
+
+/// A sink that keeps the elements.
+#[derive(Drop)]
+struct ElementList {
+    elements: Vec<(Key, Record)>,
+}
+
+impl ElementSink<()> for ElementList {
+    ghost use Rattle.std.specs.Prelude.{◌≡◌, ◌++◌};
+    ghost use Rattle.std.proofs.Common.{rules};
+    ghost use Rattle.std.proofs.lemmas.Grind.{common_steps};
+
+    type Fault = Memory;
+
+    ghost told = { λ old _ es new _. new.elements.items ≡ old.elements.items ++ es };
+
+    ghost stops = { λ _ _ _ _ _ _. Unit {0} };
+
+    fn take(&mut self, _out: &mut (), elements: &[(Key, Record)]) -> Result<(), Memory> {
+        self.elements
+            .extend_from_slice(elements)
+            .map_err(|_| Memory)
+    }
+
+    ghost told_none = { Prim.search (rules, common_steps) };
+
+    ghost told_on = { Prim.search (rules, common_steps) };
+
+    ghost stops_on = { λ _ _ _ _ _ _ _ _ _ _ _. tt };
+
+    ghost stops_before = { λ _ _ _ _ _ _ _ _. tt };
+}
 
 /// All keys with their records, in order. It reads each page of the tree once. The conditions are an
 /// order from 1 to 16, a height of at most 19, and a `count` and a `used` of at most 1,000,000. Faults:
@@ -34,9 +68,36 @@ pub fn walk<S: Store>(
         (λ elements. Walks (Spells tree.now.order (at pages.old.pages)) tree.now elements.items) }
     ensures reading { Reads tree.now.used pages.old result pages.new }
 {
-    let mut out = Vec::new(alloc);
+    let mut list = ElementList {
+        elements: Vec::new(alloc),
+    };
+    tell(pages, tree, &mut list, &mut ())??;
+    Ok(list.elements)
+}
+
+/// Tells a sink all keys with their records, in order, on the conditions of `walk`; it reads each page of the tree once, and holds
+/// only those on a way down. Inside, the fault at which the sink stopped. Faults: Device; Damaged as `walk` answers it; the
+/// sink was told those before the page then. No page changes.
+pub fn tell<O, S: Store, K: ElementSink<O>>(
+    pages: &mut Pages<S>,
+    tree: &Tree,
+    sink: &mut K,
+    out: &mut O,
+) -> Result<Result<(), K::Fault>, TreeFault>
+    requires tree { IsTree tree.now }
+    ensures told { IsTrue pages.old.steady → (es : List Element) (us : List ℕ)
+        → Holds (at pages.old.pages) tree.now es us
+        → TellsAll TreeFault.Device (λ xs. K.told sink.old out.old xs sink.new out.new)
+        (λ xs fault. K.stops sink.old out.old xs fault sink.new out.new) es result }
+    ensures there { IsTrue pages.old.steady → IfOk result (λ taken. OnOk taken
+        ((es : List Element) × Walks (Spells tree.now.order (at pages.old.pages)) tree.now es
+        × K.told sink.old out.old es sink.new out.new)) }
+    ensures some { TellsSome (λ xs. K.told sink.old out.old xs sink.new out.new)
+        (λ xs fault. K.stops sink.old out.old xs fault sink.new out.new) result }
+    ensures reading { Looks tree.now.used pages.old result pages.new }
+{
     if tree.height == 0 {
-        return Ok(out);
+        return Ok(Ok(()));
     }
     let above = Above {
         height: tree.height,
@@ -46,8 +107,7 @@ pub fn walk<S: Store>(
         },
     };
     let mut left = tree.used;
-    walk_below(pages, &mut out, &mut left, tree.order, tree.root, &above)?;
-    Ok(out)
+    tell_below(pages, sink, out, &mut left, tree.order, tree.root, &above)
 }
 
 /// What the levels above say of a tree below them.
@@ -59,30 +119,34 @@ struct Above {
     bounds: Bounds,
 }
 
-/// Adds the elements of the tree below page n, which may have `left` pages.
+/// Tells the elements of the tree below page n, which may have `left` pages.
 #[cycle(walking)]
-fn walk_below<S: Store>(
+fn tell_below<O, S: Store, K: ElementSink<O>>(
     pages: &mut Pages<S>,
-    out: &mut Vec<(Key, Record)>,
+    sink: &mut K,
+    out: &mut O,
     left: &mut u32,
     order: u16,
     n: u32,
     above: &Above,
-) -> Result<(), TreeFault>
+) -> Result<Result<(), K::Fault>, TreeFault>
     requires order { IsSmallOrder order }
     requires height { 0 < above.now.height }
-    ensures walked { IsTrue pages.old.steady → (least : ℕ) (es : List Element) (us : List ℕ)
+    ensures told { IsTrue pages.old.steady → (least : ℕ) (es : List Element) (us : List ℕ)
         → TreeAt order (at pages.old.pages) least above.now.height n es us
         → Between above.now.bounds es
         → length us ≤ left.old
-        → MatchResult result
-        (λ _. (out.new.items ≡ out.old.items ++ es) × (left.new + length us ≡ left.old)) IsOutside }
-    ensures adds { IsTrue pages.old.steady → OnOk result
-        (Adds (TreeOf (Spells order (at pages.old.pages)) 1 1 above.now.height n)
-        above.now.bounds out.old.items out.new.items left.old left.new) }
+        → TellsAll TreeFault.Device (λ xs. K.told sink.old out.old xs sink.new out.new)
+        (λ xs fault. K.stops sink.old out.old xs fault sink.new out.new) es result
+        × IfOk result (λ taken. OnOk taken (left.new + length us ≡ left.old)) }
+    ensures adds { IsTrue pages.old.steady → IfOk result (λ taken. OnOk taken
+        (Adds (TreeOf (Spells order (at pages.old.pages)) 1 1 above.now.height n) above.now.bounds
+        (λ xs. K.told sink.old out.old xs sink.new out.new) left.old left.new)) }
+    ensures some { TellsSome (λ xs. K.told sink.old out.old xs sink.new out.new)
+        (λ xs fault. K.stops sink.old out.old xs fault sink.new out.new) result }
     ensures spent { left.old ≡ 0 → result ≡ Err (TreeFault.Damaged n) }
     ensures fewer { left.new ≤ left.old }
-    ensures reading { Reads (left.old - left.new) pages.old result pages.new }
+    ensures reading { Looks (left.old - left.new) pages.old result pages.new }
 {
     if *left == 0 {
         return Err(TreeFault::Damaged(n));
@@ -99,14 +163,15 @@ fn walk_below<S: Store>(
     )?;
     let elements = node.elements.as_slice();
     if above.height == 1 {
-        return Ok(add_elements(out, elements)?);
+        return Ok(sink.take(out, elements));
     }
     let below = Above {
         height: above.height - 1,
         bounds: above.bounds,
     };
-    walk_sons(
+    tell_sons(
         pages,
+        sink,
         out,
         left,
         order,
@@ -116,35 +181,39 @@ fn walk_below<S: Store>(
     )
 }
 
-/// Adds the elements below the sons, and the elements between them.
+/// Tells the elements below the sons, and the elements between them.
 #[cycle(walking)]
-fn walk_sons<S: Store>(
+fn tell_sons<O, S: Store, K: ElementSink<O>>(
     pages: &mut Pages<S>,
-    out: &mut Vec<(Key, Record)>,
+    sink: &mut K,
+    out: &mut O,
     left: &mut u32,
     order: u16,
     sons: &[u32],
     elements: &[(Key, Record)],
     above: &Above,
-) -> Result<(), TreeFault>
+) -> Result<Result<(), K::Fault>, TreeFault>
     requires order { IsSmallOrder order }
     requires height { 0 < above.now.height }
     requires sons { length sons.now ≡ length elements.now + 1 }
-    ensures walked { IsTrue pages.old.steady → (es : List Element) (us : List ℕ)
+    ensures told { IsTrue pages.old.steady → (es : List Element) (us : List ℕ)
         → Fan (TreeAt order (at pages.old.pages) order above.now.height) sons.now elements.now es us
         → Between above.now.bounds es
         → length us ≤ left.old
-        → MatchResult result
-        (λ _. (out.new.items ≡ out.old.items ++ es) × (left.new + length us ≡ left.old)) IsOutside }
-    ensures adds { IsTrue pages.old.steady → Between above.now.bounds elements.now → OnOk result
-        (Adds (Fan (TreeOf (Spells order (at pages.old.pages)) 1 1 above.now.height)
-        sons.now elements.now)
-        above.now.bounds out.old.items out.new.items left.old left.new) }
+        → TellsAll TreeFault.Device (λ xs. K.told sink.old out.old xs sink.new out.new)
+        (λ xs fault. K.stops sink.old out.old xs fault sink.new out.new) es result
+        × IfOk result (λ taken. OnOk taken (left.new + length us ≡ left.old)) }
+    ensures adds { IsTrue pages.old.steady → Between above.now.bounds elements.now
+        → IfOk result (λ taken. OnOk taken (Adds (Fan (TreeOf (Spells order (at pages.old.pages)) 1 1 above.now.height)
+        sons.now elements.now) above.now.bounds
+        (λ xs. K.told sink.old out.old xs sink.new out.new) left.old left.new)) }
+    ensures some { TellsSome (λ xs. K.told sink.old out.old xs sink.new out.new)
+        (λ xs fault. K.stops sink.old out.old xs fault sink.new out.new) result }
     ensures fewer { left.new ≤ left.old }
-    ensures reading { Reads (left.old - left.new) pages.old result pages.new }
+    ensures reading { Looks (left.old - left.new) pages.old result pages.new }
 {
     if elements.is_empty() {
-        return walk_below(pages, out, left, order, sons[0], above);
+        return tell_below(pages, sink, out, left, order, sons[0], above);
     }
     let middle = elements[0];
     let before = Above {
@@ -154,8 +223,12 @@ fn walk_sons<S: Store>(
             high: Some(middle.0),
         },
     };
-    walk_below(pages, out, left, order, sons[0], &before)?;
-    add_elements(out, &elements[..1])?;
+    if let Err(fault) = tell_below(pages, sink, out, left, order, sons[0], &before)? {
+        return Ok(Err(fault));
+    }
+    if let Err(fault) = sink.take(out, &elements[..1]) {
+        return Ok(Err(fault));
+    }
     let behind = Above {
         height: above.height,
         bounds: Bounds {
@@ -163,11 +236,14 @@ fn walk_sons<S: Store>(
             high: above.bounds.high,
         },
     };
-    walk_sons(pages, out, left, order, &sons[1..], &elements[1..], &behind)
-}
-
-fn add_elements(out: &mut Vec<(Key, Record)>, elements: &[(Key, Record)]) -> Result<(), Memory>
-    ensures { OnOk result (out.new.items ≡ out.old.items ++ elements.now) }
-{
-    out.extend_from_slice(elements).map_err(|_| Memory)
+    tell_sons(
+        pages,
+        sink,
+        out,
+        left,
+        order,
+        &sons[1..],
+        &elements[1..],
+        &behind,
+    )
 }

@@ -1,9 +1,9 @@
-ghost use Rattle.std.specs.Prelude.{◌≡◌, ◌<◌, ◌++◌, List, IfOk, OnOk};
+ghost use Rattle.std.specs.Prelude.{◌≡◌, ◌<◌, ◌++◌, List, IfOk, OnOk, codes};
 ghost use Rattle.std.specs.List.{All, flat_map};
 ghost use Rattle.std.specs.String.{string_bytes};
 ghost use Rattle.command_text.specs.Dump.{dump_text, dump_commands, put_line, AreBytes, CanBePut};
 ghost use Rattle.command_text.specs.Script.{entries_of};
-ghost use Rattle.command_text.specs.Texts.{escaped};
+ghost use Rattle.command_text.specs.Texts.{escaped, line};
 
 use crate::reply::push_escaped;
 use rec_types::{Key, Memory, Record};
@@ -17,8 +17,22 @@ pub(crate) fn push_bytes(text: &mut String, bytes: &[u8]) -> Result<(), AllocErr
     push_escaped(text, bytes)
 }
 
-// Appends the line that puts a record.
-fn push_put(text: &mut String, entry: &(Key, Record)) -> Result<(), AllocError>
+/// The line before those that put the records of a dump.
+pub fn dump_head() -> &'static str
+    ensures { result.now ≡ line (codes "begin") }
+{
+    "begin\n"
+}
+
+/// The line behind them.
+pub fn dump_foot() -> &'static str
+    ensures { result.now ≡ line (codes "commit 1") }
+{
+    "commit 1\n"
+}
+
+/// Appends the line that puts a record, whatever bytes it has. Fault: that memory is refused; of the line any front is there then.
+pub fn push_put(text: &mut String, entry: &(Key, Record)) -> Result<(), AllocError>
     ensures text { OnOk result
         (string_bytes text.new ≡ string_bytes text.old ++ put_line entry.now) }
     ensures put { OnOk result (CanBePut entry.now) }
@@ -49,9 +63,9 @@ fn dump_text(alloc: Global, records: &[(Key, Record)]) -> Result<String, AllocEr
     ensures puts { OnOk result (All CanBePut records.now) }
 {
     let mut text = String::new(alloc);
-    text.push_str("begin\n")?;
+    text.push_str(dump_head())?;
     push_puts(&mut text, records)?;
-    text.push_str("commit 1\n")?;
+    text.push_str(dump_foot())?;
     Ok(text)
 }
 

@@ -12,7 +12,7 @@ mod unit;
 mod word;
 
 pub use command::{Command, LineFault};
-pub use dump::write_dump;
+pub use dump::{dump_foot, dump_head, push_put, write_dump};
 pub use list::{EntryList, KeyList};
 pub use reading::{LONGEST_LINE, read_bounded_line, read_line};
 pub use reply::{Reply, Unkept, append_reply, write_reply};

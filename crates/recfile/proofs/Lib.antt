@@ -15,9 +15,11 @@ pub mod OpenedLemmas
 pub mod KeptLemmas
 pub mod KeptOnceLemmas
 pub mod WritingLemmas
+pub mod ReadingLemmas
 pub mod RoomLemmas
 pub mod WordLemmas
 pub mod SavedLemmas
+pub mod SpelledLemmas
 mod CommitCallLemmas
 pub mod CopiedLemmas
 pub mod FillingLemmas

@@ -3,6 +3,7 @@ use Rattle.std.specs.Prelude.{◌≡◌, ℕ, ◌<◌, ◌≤◌, ◌⊎◌, Boo
 use Rattle.std.specs.List.{All}
 use Rattle.std.specs.Io.KnownBytes.{Appends}
 use Rattle.rec_types.specs.Contents.{Contents}
+use Rattle.rec_types.specs.declared.table.TableFault.{TableFault}
 use Rattle.btree_insert.specs.declared.tree.Tree.{Tree}
 use Rattle.btree_delete.specs.CleanFile.{IsFirst}
 use Rattle.btree_delete.specs.TableView.{IsClosed}
@@ -10,7 +11,7 @@ use Rattle.btree_delete.specs.declared.opening.open_fault.OpenFault.{OpenFault}
 use Rattle.command_text.specs.Dump.{dump_text, CanBePut}
 use Rattle.record_texts.specs.Forms.{records_text}
 use Rattle.record_texts.specs.declared.form.Form.{Form}
-use Rattle.recfile.specs.FileFaults.{fault_of_opening, is_device}
+use Rattle.recfile.specs.FileFaults.{fault_of_listing, fault_of_opening, is_device}
 use Rattle.recfile.specs.declared.dump.DumpFault.{DumpFault}
 use Rattle.recfile.specs.declared.dump.DumpFault.TheVariants.{File, Write}
 use Rattle.recfile.specs.declared.file_fault.FileFault.{FileFault}
@@ -65,7 +66,25 @@ AreSaidIn (Some form) records = Unit {0}
 abbrev pub Dumps : Option Form → Option (List ℕ) → Option (List ℕ) → List (List ℕ × List ℕ) → Type 0
 Dumps form held holds records = Appends held holds (text_in form records) × AreSaidIn form records
 
+-- a fault of the listing of records
+abbrev pub IsOfListing : FileFault → Type 0
+IsOfListing fault = (late : TableFault) × (fault ≡ fault_of_listing late)
+
+-- a front of the text is written, and not all of it
+abbrev pub IsPartWritten : Option (List ℕ) → Option (List ℕ) → List ℕ → Type 0
+IsPartWritten held holds text = (sent : ℕ) × (sent < length text) × Appends held holds (take sent text)
+
 -- the fault is from outside, or the writer's, and then a front of the text is written
 abbrev pub DumpStops : Option (List ℕ) → Option (List ℕ) → List ℕ → DumpFault → Type 0
 DumpStops held holds text (File fault) = IsOutsideFile fault
-DumpStops held holds text Write = (sent : ℕ) × (sent < length text) × Appends held holds (take sent text)
+DumpStops held holds text Write = IsPartWritten held holds text
+
+-- the same of a text that is written while the file is read: a front of it may be written at a fault from outside too
+abbrev pub ReadingStops : Option (List ℕ) → Option (List ℕ) → List ℕ → DumpFault → Type 0
+ReadingStops held holds text (File fault) = IsOutsideFile fault × ((holds ≡ held) ⊎ IsPartWritten held holds text)
+ReadingStops held holds text Write = IsPartWritten held holds text
+
+-- nothing is written where the file has a fault that isn't from outside
+abbrev pub IsSilentInside : Option (List ℕ) → Option (List ℕ) → DumpFault → Type 0
+IsSilentInside held holds (File fault) = IsOutsideFile fault ⊎ (holds ≡ held)
+IsSilentInside held holds Write = Unit {0}

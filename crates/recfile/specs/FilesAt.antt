@@ -15,7 +15,7 @@ use Rattle.btree_insert.specs.declared.tree.Tree.{Tree}
 use Rattle.btree_delete.specs.Created.{IsEmpty, IsOrder}
 use Rattle.btree_delete.specs.TableView.{IsClosed}
 use Rattle.record_texts.specs.declared.form.Form.{Form}
-use Rattle.recfile.specs.Dumped.{CanBeOpened, DumpStops, Dumps, IsDumpFault, IsFirstOrOutside, IsSilent, text_in}
+use Rattle.recfile.specs.Dumped.{CanBeOpened, DumpStops, Dumps, IsDumpFault, IsFirstOrOutside, IsSilentInside, ReadingStops, text_in}
 use Rattle.recfile.specs.DurableSession.{EndsDurably, RunsLogged, StandsUnbegun}
 use Rattle.recfile.specs.FileFaults.{IsMakingFault, fault_of_copying, is_device}
 use Rattle.recfile.specs.Kept.{ClosesSafely, CountsClosing, IsOutsideDisk, IsUnopened, LeavesAs, LeavesOld, RunsOn}
@@ -100,7 +100,7 @@ pub record ReadsAt {S : Type 0} (g : StoreGhosts S) (At : Files → Type 0) (lim
   pub store : S
   pub closed : IsTrue (g.steady opened) → OnOk done (CanBeOpened (g.pages opened) (g.tail opened) limit)
   pub first : IsTrue (g.steady opened) → IfErr done (IsDumpFault (g.pages opened) (g.tail opened) limit)
-  pub silent : IfErr done (IsSilent held holds)
+  pub silent : IsTrue (g.steady opened) → IfErr done (IsSilentInside held holds)
   pub told : IsTrue (g.steady opened) → (tree : Tree) → (contents : Contents) → (version : ℕ)
       → IsClosed version (g.pages opened) (g.tail opened) tree contents → tree.count ≤ limit
       → Told tree contents (length (g.pages opened)) done
@@ -116,7 +116,7 @@ TellsTree held holds tree contents pages done =
 abbrev pub TellsRecords : Option Form → Option (List ℕ) → Option (List ℕ) → Tree → Contents → ℕ → Result (Unit {0}) DumpFault → Type 0
 TellsRecords form held holds tree contents pages done =
     MatchResult done (λ _. Dumps form held holds (maps.entries contents))
-    (DumpStops held holds (text_in form (maps.entries contents)))
+    (ReadingStops held holds (text_in form (maps.entries contents)))
 
 -- An empty file was made at a path, and a tree of that order without records in it, or the fault says why not.
 pub record MakesAt {S : Type 0} (g : StoreGhosts S) (order : ℕ) (made : Result (Unit {0}) FileFault) : Type 0 where

@@ -5,6 +5,7 @@ pub mod Ending
 pub mod Examples
 pub mod FileFaults
 pub mod Dumped
+pub mod Spelled
 pub mod Kept
 pub mod LogKeeping
 pub mod Overlaid

@@ -1,5 +1,5 @@
 -- What doing a task of the program leaves, and its status.
-use Rattle.std.specs.Prelude.{◌≡◌, ◌⊎◌, ℕ, Bool, true, false, ◌<◌, List, length, take, Option, Some, None, Result, Ok, Err, IsTrue, if◌then◌else◌}
+use Rattle.std.specs.Prelude.{◌≡◌, ◌⊎◌, ℕ, Bool, true, false, List, Option, Some, None, Result, Ok, Err, IsTrue, if◌then◌else◌}
 use Rattle.std.specs.Result.{is_err}
 use Rattle.std.specs.Io.KnownBytes.{Appends}
 use Rattle.rec_types.specs.Contents.{Contents}
@@ -13,7 +13,7 @@ use Rattle.command_text.specs.Dump.{dump_text}
 use Rattle.page_rescue.specs.Rescue.{Saves}
 use Rattle.page_rescue.specs.declared.rescue.Rescued.{Rescued}
 use Rattle.record_texts.specs.declared.form.Form.{Form}
-use Rattle.recfile.specs.Dumped.{text_in}
+use Rattle.recfile.specs.Dumped.{IsOfListing, IsPartWritten, text_in}
 use Rattle.recfile.specs.Filling.{CanFill, FillsAt, LooksAt}
 use Rattle.recfile.specs.FilesAt.{Copies, Creates, IsFoundAt, RunsAt, Tells, TellsRecords, TellsTree}
 use Rattle.recfile.specs.Streams.{CallsMade}
@@ -45,7 +45,13 @@ IsSaved pages text = (rescued : Rescued) × Saves pages rescued × (text ≡ dum
 abbrev pub Writes : (List ℕ → Type 0) → Option (List ℕ) → Option (List ℕ) → Result (Unit {0}) DumpFault → Type 0
 Writes Is held holds (Ok done) = (text : List ℕ) × Is text × Appends held holds text
 Writes Is held holds (Err (File fault)) = holds ≡ held
-Writes Is held holds (Err Write) = (text : List ℕ) × Is text × ((sent : ℕ) × (sent < length text) × Appends held holds (take sent text))
+Writes Is held holds (Err Write) = (text : List ℕ) × Is text × IsPartWritten held holds text
+
+-- the same of a text that is written while the records are listed: where the listing has a fault, a front of one may be written
+abbrev pub WritesListed : (List ℕ → Type 0) → Option (List ℕ) → Option (List ℕ) → Result (Unit {0}) DumpFault → Type 0
+WritesListed Is held holds (Ok done) = (text : List ℕ) × Is text × Appends held holds text
+WritesListed Is held holds (Err (File fault)) = (holds ≡ held) ⊎ (IsOfListing fault × ((text : List ℕ) × Is text × IsPartWritten held holds text))
+WritesListed Is held holds (Err Write) = (text : List ℕ) × Is text × IsPartWritten held holds text
 
 -- the status of a text
 abbrev pub text_status : Result (Unit {0}) DumpFault → ℕ
@@ -54,9 +60,9 @@ text_status (Err (File fault)) = 1
 text_status (Err Write) = 3
 
 -- a text about the file at a path was asked for, and this is the status
-abbrev pub WritesText : {S : Type 0} → (List ℕ → Type 0) → StoreGhosts S → (Files → Type 0) → (Tree → Contents → ℕ → Result (Unit {0}) DumpFault → Type 0) → Option (List ℕ) → Option (List ℕ) → ℕ → Type 0
-WritesText Is g At Told held holds status =
-    (done : Result (Unit {0}) DumpFault) × Writes Is held holds done × Tells g At most_records Told held holds done × (status ≡ text_status done)
+abbrev pub WritesText : {S : Type 0} → (Option (List ℕ) → Option (List ℕ) → Result (Unit {0}) DumpFault → Type 0) → StoreGhosts S → (Files → Type 0) → (Tree → Contents → ℕ → Result (Unit {0}) DumpFault → Type 0) → Option (List ℕ) → Option (List ℕ) → ℕ → Type 0
+WritesText Written g At Told held holds status =
+    (done : Result (Unit {0}) DumpFault) × Written held holds done × Tells g At most_records Told held holds done × (status ≡ text_status done)
 
 -- What was saved of the file at a path: no file is found there and nothing is written, or what is saved of its pages is.
 -- Nothing is written to the file.
@@ -105,12 +111,12 @@ Does disks stores at (tasks.Create order path) left leaves held holds before aft
     × ((made : Result (Unit {0}) FileFault) × Creates stores order made × (status ≡ (if is_err made then 1 else 0)))
 Does disks stores at (tasks.Run limits manner durable path) left leaves held holds before after status = RunsOver disks (at path.now) durable manner limits left leaves held holds before after status
 Does disks stores at (tasks.Check path) left leaves held holds before after status =
-    (leaves ≡ left) × WritesText IsLine stores (at path.now) (TellsTree held holds) held holds status
+    (leaves ≡ left) × WritesText (Writes IsLine) stores (at path.now) (TellsTree held holds) held holds status
 Does disks stores at (tasks.Copy path to) left leaves held holds before after status =
     (leaves ≡ left) × (holds ≡ held)
     × ((done : Result (Unit {0}) CopyingFault) × Copies stores (at path.now) most_records done × (status ≡ (if is_err done then 1 else 0)))
 Does disks stores at (tasks.Dump form path) left leaves held holds before after status =
-    (leaves ≡ left) × WritesText (IsDump form) stores (at path.now) (TellsRecords form held holds) held holds status
+    (leaves ≡ left) × WritesText (WritesListed (IsDump form)) stores (at path.now) (TellsRecords form held holds) held holds status
 Does disks stores at (tasks.Rescue path) left leaves held holds before after status =
     (leaves ≡ left)
     × ((done : Result (Unit {0}) DumpFault) × Writes (IsDump None) held holds done × Rescues stores (at path.now) held holds done × (status ≡ text_status done))

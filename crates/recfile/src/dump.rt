@@ -1,14 +1,16 @@
-ghost use Rattle.std.specs.Prelude.{◌≡◌, ◌≤◌, ℕ, None, true, false, Err, IsTrue, IfOk, IfErr, OnOk, MatchResult};
+ghost use Rattle.std.specs.Prelude.{◌≡◌, ◌≤◌, ℕ, None, true, false, IsTrue, IfErr, OnOk, MatchResult};
 ghost use Rattle.std.specs.FinMap as maps;
 ghost use Rattle.rec_types.specs.Contents.{Contents};
 ghost use Rattle.rec_types.specs.Table.{counted};
+ghost use Rattle.page_store.specs.PagesView.{with_reads};
 ghost use Rattle.page_store.specs.StoreCalls.{StaysStore};
 ghost use Rattle.btree_insert.specs.declared.tree.Tree.{Tree as TreeValue};
-ghost use Rattle.btree_delete.specs.TableView.{IsClosed};
-ghost use Rattle.recfile.specs.Dumped.{AreSaidIn, CanBeOpened, IsFirstOrOutside, IsOutsideFile, IsDumpFault, IsSilent, Dumps, DumpStops, is_device_dump, text_in};
-ghost use Rattle.recfile.specs.FileFaults.{is_device_answer};
-ghost use Rattle.recfile.specs.Tasks.{IsDump, IsSaved, Writes};
+ghost use Rattle.btree_delete.specs.TableView.{IsClosed, table_contents};
+ghost use Rattle.command_text.specs.Dump.{dump_text};
+ghost use Rattle.recfile.specs.Dumped.{CanBeOpened, IsDumpFault, IsSilent, IsSilentInside, Dumps, DumpStops, ReadingStops, is_device_dump, text_in};
+ghost use Rattle.recfile.specs.Tasks.{IsDump, IsSaved, Writes, WritesListed};
 
+use crate::dump_text::DumpText;
 use crate::file_fault::FileFault;
 use crate::script::write_text;
 use btree_delete::TreeTable;
@@ -16,9 +18,9 @@ use btree_node::Header;
 use command_text::write_dump;
 use page_rescue::{RescueFault, rescue_pages};
 use page_store::Store;
-use rec_types::{Key, Limits, Memory, Record, Table};
+use rec_types::{Key, Limits, Memory, Record};
 use record_texts::Form;
-use std::alloc::Global;
+use std::alloc::{AllocError, Global};
 use std::io::Write;
 use thiserror::Error;
 
@@ -39,6 +41,18 @@ impl From<FileFault> for DumpFault {
 
     fn from(fault: FileFault) -> DumpFault {
         DumpFault::File(fault)
+    }
+}
+
+impl From<AllocError> for DumpFault {
+    ghost use Rattle.std.specs.Prelude.{◌≡◌};
+    ghost use Rattle.recfile.specs.declared.dump.DumpFault.TheVariants.{File};
+    ghost use Rattle.recfile.specs.declared.file_fault.FileFault.TheVariants.{Memory};
+
+    ghost from_gives = { λ _ named. named ≡ File Memory };
+
+    fn from(_: AllocError) -> DumpFault {
+        DumpFault::File(FileFault::Memory)
     }
 }
 
@@ -69,81 +83,48 @@ impl From<RescueFault> for DumpFault {
     }
 }
 
-// Opens a page file, and lists its records. The store comes back. Faults: those of opening; Device, Memory.
-fn list_in<S: Store>(
+// Writes the records of a table in a form, or as a script, while it lists them. Faults: Device, Damaged, Memory and Write; a
+// front of the text is written then.
+fn dump_table<S: Store, W: Write>(
     alloc: Global,
-    store: S,
-    limits: Limits,
-) -> (S, Result<Vec<(Key, Record)>, FileFault>)
-    ensures closed { IsTrue (S.steady store)
-        → OnOk result.1 (CanBeOpened (S.pages store) (S.tail store) limits.records) }
-    ensures first { IsTrue (S.steady store) → IfErr result.1
-        (IsFirstOrOutside (S.pages store) (S.tail store) limits.records) }
-    ensures listed { IsTrue (S.steady store) → (tree : TreeValue) → (contents : Contents)
-        → (version : ℕ) → IsClosed version (S.pages store) (S.tail store) tree contents
-        → tree.count ≤ limits.records
-        → MatchResult result.1 (λ records. records.items ≡ maps.entries contents) IsOutsideFile }
-    ensures stays { StaysStore S.StoreState store result.0 }
-    ensures asked { S.shapes result.0 ≡ counted (S.shapes store) true }
-    ensures device { S.failures result.0
-        ≡ counted (S.failures store) (is_device_answer result.1) }
-{
-    let mut table = match TreeTable::open_from(alloc, store, limits) {
-        Ok(table) => table,
-        Err(stop) => return (stop.store, Err(FileFault::from(stop.fault))),
-    };
-    match table.entries() {
-        Ok(records) => (table.abandon(), Ok(records)),
-        Err(fault) => (table.abandon(), Err(FileFault::from(fault))),
-    }
-}
-
-// Records in a form, or as a script. Fault: Memory.
-fn text_of(alloc: Global, form: Option<Form>, records: &[(Key, Record)]) -> Result<Vec<u8>, Memory>
-    ensures text { IfOk result (λ text. text.items ≡ text_in form records.now) }
-    ensures said { OnOk result (AreSaidIn form records.now) }
-{
-    match form {
-        Some(form) => record_texts::write_records(alloc, form, records),
-        None => write_dump(alloc, records),
-    }
-}
-
-// Writes records in a form, or as a script. Faults: Memory, Write.
-fn write_records<W: Write>(
-    alloc: Global,
+    table: &mut TreeTable<S>,
     form: Option<Form>,
+    out: &mut W,
+) -> Result<(), DumpFault>
+    ensures dumped { IsTrue table.old.pages.steady → MatchResult result
+        (λ _. Dumps form (W.contents out.old) (W.contents out.new)
+        (maps.entries (table_contents table.old)))
+        (ReadingStops (W.contents out.old) (W.contents out.new)
+        (text_in form (maps.entries (table_contents table.old)))) }
+    ensures written { WritesListed (IsDump form) (W.contents out.old) (W.contents out.new) result }
+    ensures pages { table.new.pages ≡ with_reads table.old.pages table.new.pages }
+    ensures device { table.new.pages.failures
+        ≡ counted table.old.pages.failures (is_device_dump result) }
+{
+    let mut text = DumpText::begin(alloc, form)?;
+    match table.tell_all(&mut text, out) {
+        Ok(taken) => match taken {
+            Ok(()) => text.end(out),
+            Err(fault) => Err(fault),
+        },
+        Err(fault) => Err(DumpFault::File(FileFault::from(fault))),
+    }
+}
+
+// Writes records as a script. Faults: Memory, Write.
+fn write_script<W: Write>(
+    alloc: Global,
     records: &[(Key, Record)],
     out: &mut W,
 ) -> Result<(), DumpFault>
     ensures dumped { OnOk result
-        (Dumps form (W.contents out.old) (W.contents out.new) records.now) }
+        (Dumps None (W.contents out.old) (W.contents out.new) records.now) }
     ensures stops { IfErr result
-        (DumpStops (W.contents out.old) (W.contents out.new) (text_in form records.now)) }
+        (DumpStops (W.contents out.old) (W.contents out.new) (dump_text records.now)) }
     ensures silent { IfErr result (IsSilent (W.contents out.old) (W.contents out.new)) }
-    ensures device { is_device_dump result ≡ false }
 {
-    let text = text_of(alloc, form, records)?;
+    let text = write_dump(alloc, records)?;
     write_text(out, &text).map_err(|_| DumpFault::Write)
-}
-
-// Writes the records that were listed in a form, or as a script. Faults: that of the list; Memory, Write.
-fn write_listed<W: Write>(
-    alloc: Global,
-    form: Option<Form>,
-    listed: Result<Vec<(Key, Record)>, FileFault>,
-    out: &mut W,
-) -> Result<(), DumpFault>
-    ensures dumped { IfOk listed (λ records. MatchResult result
-        (λ _. Dumps form (W.contents out.old) (W.contents out.new) records.items)
-        (DumpStops (W.contents out.old) (W.contents out.new) (text_in form records.items))) }
-    ensures fault { IfErr listed (λ fault. result ≡ Err (DumpFault.File fault)) }
-    ensures silent { IfErr result (IsSilent (W.contents out.old) (W.contents out.new)) }
-    ensures written { Writes (IsDump form) (W.contents out.old) (W.contents out.new) result }
-    ensures device { is_device_dump result ≡ is_device_answer listed }
-{
-    let records = listed?;
-    write_records(alloc, form, &records, out)
 }
 
 /// Writes the records of the whole pages of a store as a script, as `rescue_pages` saves them; `header` is what page 0
@@ -162,12 +143,13 @@ pub fn rescue_in<S: Store, W: Write>(
     ensures stays { StaysStore S.StoreState store.old store.new }
 {
     let rescued = rescue_pages(alloc, store, header, reached)?;
-    write_records(alloc, None, &rescued.records, out)
+    write_script(alloc, &rescued.records, out)
 }
 
-/// Opens a page file, and writes its records in key order: in a form, or as a script that puts them in one transaction. It
-/// writes nothing to the store, which comes back. Faults: those of opening; Device and Memory, where the records aren't
-/// listed; Write, where a front of the text is written, and a script has no commit.
+/// Opens a page file, and writes its records in key order while it reads them: in a form, or as a script that puts them in one
+/// transaction. It writes nothing to the store, which comes back, and holds no more than a piece of the text. Faults: those of
+/// opening, where nothing is written; Device, Memory and Write, where a front of the text may be written, and a script has no
+/// commit.
 pub fn dump_in<S: Store, W: Write>(
     alloc: Global,
     store: S,
@@ -179,21 +161,28 @@ pub fn dump_in<S: Store, W: Write>(
         → OnOk result.1 (CanBeOpened (S.pages store) (S.tail store) limits.records) }
     ensures first { IsTrue (S.steady store) → IfErr result.1
         (IsDumpFault (S.pages store) (S.tail store) limits.records) }
-    ensures silent { IfErr result.1 (IsSilent (W.contents out.old) (W.contents out.new)) }
+    ensures silent { IsTrue (S.steady store)
+        → IfErr result.1 (IsSilentInside (W.contents out.old) (W.contents out.new)) }
     ensures dumped { IsTrue (S.steady store) → (tree : TreeValue) → (contents : Contents)
         → (version : ℕ) → IsClosed version (S.pages store) (S.tail store) tree contents
         → tree.count ≤ limits.records
         → MatchResult result.1
         (λ _. Dumps form (W.contents out.old) (W.contents out.new) (maps.entries contents))
-        (DumpStops (W.contents out.old) (W.contents out.new)
+        (ReadingStops (W.contents out.old) (W.contents out.new)
         (text_in form (maps.entries contents))) }
-    ensures written { Writes (IsDump form) (W.contents out.old) (W.contents out.new) result.1 }
+    ensures written { WritesListed (IsDump form) (W.contents out.old) (W.contents out.new) result.1 }
     ensures stays { StaysStore S.StoreState store result.0 }
     ensures asked { S.shapes result.0 ≡ counted (S.shapes store) true }
     ensures device { S.failures result.0
         ≡ counted (S.failures store) (is_device_dump result.1) }
 {
-    let (store, listed) = list_in(alloc, store, limits);
-    let dumped = write_listed(alloc, form, listed, out);
-    (store, dumped)
+    let mut table = match TreeTable::open_from(alloc, store, limits) {
+        Ok(table) => table,
+        Err(stop) => return (
+            stop.store,
+            Err(DumpFault::File(FileFault::from(stop.fault))),
+        ),
+    };
+    let dumped = dump_table(alloc, &mut table, form, out);
+    (table.abandon(), dumped)
 }

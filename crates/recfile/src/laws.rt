@@ -25,6 +25,8 @@ ghost use Rattle.command_text.specs.Script.{entries_in, entries_of};
 ghost use Rattle.command_text.specs.Units.{Write, unit_commands};
 ghost use Rattle.command_text.specs.declared.reply.Reply.{Reply};
 ghost use Rattle.recfile.specs.DurableSession.{AreFirstCommits, EndsDurably};
+ghost use Rattle.record_texts.specs.declared.form.Form.TheVariants.{Tsv};
+ghost use Rattle.recfile.specs.Dumped.{ReadingStops};
 ghost use Rattle.recfile.specs.Ending.{EndsAll, without};
 ghost use Rattle.recfile.specs.Examples.{four_changes, two_taken_back};
 ghost use Rattle.recfile.specs.Kept.{ClosesSafely, CountsClosing, HasRecords, IsKept, LeavesEither};
@@ -34,9 +36,12 @@ ghost use Rattle.recfile.specs.Room.{HasRoomFor, was_kept};
 ghost use Rattle.recfile.specs.Run.{Session};
 ghost use Rattle.recfile.specs.SessionCommits.{IsInDoubt, MakesCommits, in_doubt};
 ghost use Rattle.recfile.specs.Settling.{PutsRight};
+ghost use Rattle.recfile.specs.Spelled.{SpellsLines};
 ghost use Rattle.recfile.specs.StoreSession.{WritesBack};
 ghost use Rattle.recfile.specs.Streams.{CallsMade, TellsFailed, no_call, run_read_fault, run_write_fault};
+ghost use Rattle.recfile.specs.Tasks.{IsDump, WritesListed};
 ghost use Rattle.recfile.specs.WholeSession.{EndsFile, IsSession, RunsFile};
+ghost use Rattle.recfile.specs.declared.dump.DumpFault.TheVariants.{File as DumpFile};
 ghost use Rattle.recfile.specs.declared.endings.EndFault.{EndFault};
 ghost use Rattle.recfile.specs.declared.file_fault.FileFault.{FileFault};
 ghost use Rattle.recfile.specs.declared.file_fault.FileFault.TheVariants as faults;
@@ -300,4 +305,22 @@ pub fn settlings_by_example()
     ensures healthy_refused { (old new : History) (order : ℕ) (records : Contents)
         → Finds order records old.first
         → PutsRight ⟦<MemDisk as DiskState>⟧ old (Err faults.BadCommits) new → ⊥ }
+{}
+
+/// What a dump leaves that isn't whole: a front of its text at a failed device, and never the whole text; no other fault of the
+/// file but those of the listing comes behind its first byte. Of a line a part may be written and the rest wait, and nothing of it
+/// is lost.
+pub fn dumps_in_part()
+    ensures front { ReadingStops (Some []) (Some (codes "begin")) (dump_text [])
+        (DumpFile faults.Device) }
+    ensures whole { ReadingStops (Some []) (Some (dump_text [])) (dump_text [])
+        (DumpFile faults.Device) → ⊥ }
+    ensures damaged { (page : ℕ) (held holds : Option (List ℕ)) (text : List ℕ)
+        → ReadingStops held holds text (DumpFile (faults.Damaged page)) → ⊥ }
+    ensures unopened { (held holds : Option (List ℕ)) → WritesListed (IsDump None) held holds
+        (Err (DumpFile faults.BadMagic)) → holds ≡ held }
+    ensures waits { SpellsLines (Some Tsv) [] (Some []) ((97 ∷ [], 98 ∷ []) ∷ []) (10 ∷ [])
+        (Some (97 ∷ 9 ∷ 98 ∷ [])) }
+    ensures lost { SpellsLines (Some Tsv) [] (Some []) ((97 ∷ [], 98 ∷ []) ∷ []) []
+        (Some (97 ∷ 9 ∷ 98 ∷ [])) → ⊥ }
 {}

@@ -6,6 +6,7 @@ mod call;
 mod commit_keeper;
 mod copying;
 mod dump;
+mod dump_text;
 mod durable;
 mod endings;
 mod file_fault;

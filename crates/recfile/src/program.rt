@@ -2,7 +2,7 @@ ghost use Rattle.std.specs.Prelude.{◌≡◌, ◌⊎◌, if◌then◌else◌};
 ghost use Rattle.std.specs.Result.{is_err};
 ghost use Rattle.rec_types.specs.LimitBounds.{most_records};
 ghost use Rattle.recfile.specs.FilesAt.{Copies, Creates, Tells, TellsRecords, TellsTree};
-ghost use Rattle.recfile.specs.Tasks.{Does, DoesAny, IsDump, IsLine, Rescues, Writes, text_status, told_status};
+ghost use Rattle.recfile.specs.Tasks.{Does, DoesAny, IsDump, IsLine, Rescues, Writes, WritesListed, text_status, told_status};
 
 use crate::copying::{CopyingFault, copy_into, open_whole};
 use crate::dump::{DumpFault, dump_in, rescue_in};
@@ -70,7 +70,7 @@ fn dump<P: PageFiles, W: Write>(
     path: &str,
     out: &mut W,
 ) -> Result<(), DumpFault>
-    ensures text { Writes (IsDump form) (W.contents out.old) (W.contents out.new) result }
+    ensures text { WritesListed (IsDump form) (W.contents out.old) (W.contents out.new) result }
     ensures told { Tells P.Pages.StoreState (P.at files.now path.now) most_records
         (TellsRecords form (W.contents out.old) (W.contents out.new))
         (W.contents out.old) (W.contents out.new) result }

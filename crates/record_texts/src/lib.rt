@@ -8,4 +8,4 @@ mod writing;
 
 pub use form::Form;
 pub use reading::{Cause, Loaded, Separator, TextFault, read_records};
-pub use writing::write_records;
+pub use writing::push_record;

@@ -1,9 +1,9 @@
-ghost use Rattle.std.specs.Prelude.{◌≡◌, ◌<◌, ◌++◌, ◌∷◌, [], IfOk, OnOk};
-ghost use Rattle.record_texts.specs.Forms.{before, between, behind, byte_text, field_text, hex_digit, hex_text, json_byte, record_line, records_text, tsv_byte, csv_byte};
+ghost use Rattle.std.specs.Prelude.{◌≡◌, ◌<◌, ◌++◌, ◌∷◌, [], OnOk};
+ghost use Rattle.record_texts.specs.Forms.{before, between, behind, byte_text, field_text, hex_digit, hex_text, json_byte, record_line, tsv_byte, csv_byte};
 
 use crate::form::Form;
-use rec_types::{Key, Memory, Record};
-use std::alloc::{AllocError, Global};
+use rec_types::{Key, Record};
+use std::alloc::AllocError;
 
 fn push_text(out: &mut Vec<u8>, text: &[u8]) -> Result<(), AllocError>
     ensures { OnOk result (out.new.items ≡ out.old.items ++ text.now) }
@@ -133,7 +133,8 @@ fn behind(form: Form) -> &'static [u8]
     }
 }
 
-fn push_record(out: &mut Vec<u8>, form: Form, entry: &(Key, Record)) -> Result<(), AllocError>
+/// Appends the line of a record in a form. Fault: that memory is refused; of the line any front is there then.
+pub fn push_record(out: &mut Vec<u8>, form: Form, entry: &(Key, Record)) -> Result<(), AllocError>
     ensures { OnOk result (out.new.items ≡ out.old.items ++ record_line form entry.now) }
 {
     let (key, value) = entry;
@@ -142,26 +143,4 @@ fn push_record(out: &mut Vec<u8>, form: Form, entry: &(Key, Record)) -> Result<(
     push_text(out, between(form))?;
     push_field(out, form, value.bytes())?;
     push_text(out, behind(form))
-}
-
-fn push_records(out: &mut Vec<u8>, form: Form, records: &[(Key, Record)]) -> Result<(), AllocError>
-    ensures { OnOk result (out.new.items ≡ out.old.items ++ records_text form records.now) }
-{
-    for entry in records {
-        push_record(out, form, entry)?;
-    }
-    Ok(())
-}
-
-/// The records in a form, one in a line, in their order. Fault: Memory.
-pub fn write_records(
-    alloc: Global,
-    form: Form,
-    records: &[(Key, Record)],
-) -> Result<Vec<u8>, Memory>
-    ensures { IfOk result (λ text. text.items ≡ records_text form records.now) }
-{
-    let mut text = Vec::new(alloc);
-    push_records(&mut text, form, records).map_err(|_| Memory)?;
-    Ok(text)
 }

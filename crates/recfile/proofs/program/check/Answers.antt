@@ -1,6 +1,7 @@
 use Rattle.std.proofs.Common.{inr, ℕ, ap, subst}
 use Rattle.rec_types.specs.LimitBounds.{Bounds}
 use Rattle.recfile.specs.FilesAt.{Tells, TellsTree}
+use Rattle.recfile.proofs.ReadingLemmas.{silent_inside}
 use Rattle.recfile.proofs.program.check.Goals as goal
 
 pub returns-clause-told : goal.returns-clause-told
@@ -14,7 +15,7 @@ returns-clause-told g c =
       store = c.check_in-store.result.0;
       closed = c.check_in-store.ensures.closed;
       first = c.check_in-store.ensures.first;
-      silent = c.check_in-store.ensures.silent;
+      silent = λ _. silent_inside held holds c.check_in-store.result.1 c.check_in-store.ensures.silent;
       told = c.check_in-store.ensures.told;
       stays = c.check_in-store.ensures.stays;
     }))
