@@ -10,7 +10,7 @@ import sys
 
 CRATES = pathlib.Path(__file__).resolve().parent.parent / "crates"
 DECLARED = re.compile(r"(?:abbrev |opaque )?pub (?:record |data )?([^\s(:{]+)")
-MOST = 88
+MOST = 66
 
 
 def definitions(path):

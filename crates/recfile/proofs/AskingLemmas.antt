@@ -15,10 +15,10 @@ use Rattle.record_file.specs.Steps.{rose, EndsBy}
 use Rattle.record_file.proofs.AskedLemmas.{undo_nothing, undo_then}
 use Rattle.record_file.proofs.FaultLemmas.{tells_no_damage}
 use Rattle.record_file.proofs.LogGrowthLemmas.{tells_none, tells_on}
-use Rattle.recfile.specs.Ending.{Asks, resumed, aborted, end_cause}
+use Rattle.recfile.specs.Ending.{EndingAsks, resumed, aborted, end_cause}
 
 -- nothing was asked
-pub asks_nothing : (s : Seen) → Asks s None s
+pub asks_nothing : (s : Seen) → EndingAsks s None s
 asks_nothing s = record {
   failures = refl;
   refusals = refl;
@@ -34,7 +34,7 @@ asks_nothing s = record {
     same n = grind (arith, nat_tests)
 
 -- one call after calls that were not stopped
-pub asks_on : (old mid new : Seen) (cause : Option Cause) → Asks old None mid → Asks mid cause new → Asks old cause new
+pub asks_on : (old mid new : Seen) (cause : Option Cause) → EndingAsks old None mid → EndingAsks mid cause new → EndingAsks old cause new
 asks_on old mid new cause first later = record {
   failures = later.failures ∙ ap (λ n. counted n (by_device cause)) first.failures;
   refusals = later.refusals ∙ ap (λ n. counted n (by_memory cause)) first.refusals;

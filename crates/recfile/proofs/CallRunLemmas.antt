@@ -64,7 +64,7 @@ module _ {T : Type 0} (t : Ghosts T) (logged : Bool) (old new : OpenFile T) (cau
   undo_seen : UndoAsks (seen t old) cause (seen t new) → UndoAsks (seen_as logged t old) cause (seen_as logged t new)
   undo_seen told = record { more = told.more; no_room = told.no_room; grown = told.grown; sets = told.sets; gets = told.gets; lists = told.lists; no_rooms = told.no_rooms; lost = told.lost }
 
-  pub ending_as : ending.Asks (seen t old) cause (seen t new) → ending.Asks (seen_as logged t old) cause (seen_as logged t new)
+  pub ending_as : ending.EndingAsks (seen t old) cause (seen t new) → ending.EndingAsks (seen_as logged t old) cause (seen_as logged t new)
   ending_as told = record { failures = told.failures; refusals = told.refusals; damages = told.damages; sound = told.sound; told = told.told; opening = told.opening; caused = told.caused; asked = undo_seen told.asked }
 
 -- of a command that leaves what its table was made of

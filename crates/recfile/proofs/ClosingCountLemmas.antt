@@ -20,18 +20,18 @@ use Rattle.page_journal.specs.Recovery.{is_device_fault as is_recovery_device}
 use Rattle.page_journal.specs.declared.recovery_fault.RecoveryFault.{RecoveryFault}
 use Rattle.page_journal.specs.declared.recovery_fault.RecoveryFault.TheVariants as recovering
 use Rattle.recfile.specs.FileFaults.{answer_of_store, fault_of_closing, fault_of_opening, fault_of_recovery, is_device, is_device_answer}
-use Rattle.recfile.specs.Kept.{is_sealed, refusals_of}
+use Rattle.recfile.specs.Kept.{is_sealed, refused_calls}
 use Rattle.recfile.specs.declared.file_fault.FileFault.{FileFault}
 
-refusals_in : (state : SealState) (kept : List Bool) (refusals : ℕ) → refusals_of (guard_of state kept refusals) ≡ refusals
+refusals_in : (state : SealState) (kept : List Bool) (refusals : ℕ) → refused_calls (guard_of state kept refusals) ≡ refusals
 refusals_in states.Unsealed kept refusals = refl
 refusals_in states.Sealed kept refusals = refl
 refusals_in states.Stopped kept refusals = refl
 
 -- where no call was refused, the failures of a store are those of its disk
-pub unrefused : (state : SealState) (kept : List Bool) (failed refusals failures : ℕ) (guard : Guard) → guard_of state kept refusals ≡ guard → refusals_of guard ≡ 0 → failures_with failed refusals ≡ failures → failed ≡ failures
+pub unrefused : (state : SealState) (kept : List Bool) (failed refusals failures : ℕ) (guard : Guard) → guard_of state kept refusals ≡ guard → refused_calls guard ≡ 0 → failures_with failed refusals ≡ failures → failed ≡ failures
 unrefused state kept failed refusals failures guard is none all =
-    let zero_is : refusals ≡ 0 = sym (refusals_in state kept refusals) ∙ ap refusals_of is ∙ none in
+    let zero_is : refusals ≡ 0 = sym (refusals_in state kept refusals) ∙ ap refused_calls is ∙ none in
     ap (failures_with failed) (sym zero_is) ∙ all
 
 -- a store in which nothing is kept aside and no call was refused
@@ -49,12 +49,12 @@ pub unsealed : (state : SealState) (kept : List Bool) (refusals : ℕ) (guard : 
 unsealed state kept refusals guard is not_sealed same = absurd (cc (sym not_sealed ∙ ap is_sealed (sym is) ∙ ap (λ (s : SealState). is_sealed (guard_of s kept refusals)) same))
 
 -- sealing leaves no refusal, whatever it answers
-pub seal_refuses : (F : Type 0) (test : ℕ → Bool) (long : ℕ) (old : Guard) (answer : Result (Unit {0}) F) (new : Guard) → old ≡ Unsealed 0 → SealsGuard test long old answer new → refusals_of new ≡ 0
+pub seal_refuses : (F : Type 0) (test : ℕ → Bool) (long : ℕ) (old : Guard) (answer : Result (Unit {0}) F) (new : Guard) → old ≡ Unsealed 0 → SealsGuard test long old answer new → refused_calls new ≡ 0
 seal_refuses F test long old answer new is seals = at answer (subst (λ (k : Guard). SealsGuard {F = F} test long k answer new) is seals)
   where
-    at : (answer : Result (Unit {0}) F) → SealsGuard test long (Unsealed 0) answer new → refusals_of new ≡ 0
-    at (Ok done) keeps = ap refusals_of keeps.sealed
-    at (Err fault) left = ⊎_elim (λ (same : new ≡ Unsealed 0). ap refusals_of same) (λ (stopped : new ≡ Stopped 0). ap refusals_of stopped) left
+    at : (answer : Result (Unit {0}) F) → SealsGuard test long (Unsealed 0) answer new → refused_calls new ≡ 0
+    at (Ok done) keeps = ap refused_calls keeps.sealed
+    at (Err fault) left = ⊎_elim (λ (same : new ≡ Unsealed 0). ap refused_calls same) (λ (stopped : new ≡ Stopped 0). ap refused_calls stopped) left
 
 abbrev pub is_stopped : Guard → Bool
 is_stopped Unguarded = false
@@ -139,3 +139,11 @@ device_of_recovery recovering.BadJournal = refl
 -- what is told of a fault that is there
 pub some_told : (o : Option FileFault) (fault : FileFault) (Q : FileFault → Type 0) → o ≡ Some fault → Q fault → IfSome o Q
 some_told o fault Q is known = subst (λ (p : Option FileFault). IfSome p Q) (sym is) known
+
+-- one failure more, or none
+pub one_more : (n : ℕ) → n < greatest_count → counted n true ≡ n + 1
+one_more n less = grind (arith, nat_tests)
+
+pub no_less : (n : ℕ) (b : Bool) → n < counted n b + 1
+no_less n true = grind (arith, nat_tests)
+no_less n false = omega arith

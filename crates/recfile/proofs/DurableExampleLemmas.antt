@@ -1,27 +1,30 @@
 -- What no session leaves whose commits are kept before they are answered.
-use Rattle.std.proofs.Common.{◌≡◌, ◌≢◌, ⊎_elim, ℕ, List, [], ◌∷◌, ◌++◌, length, Option, Some, None, option_map, Result, Ok, OnOk, refl, sym, ap, subst, ◌∙◌, arith, zero}
+use Rattle.std.proofs.Common.{◌≡◌, ◌≢◌, ⊎_elim, ℕ, List, [], ◌∷◌, ◌++◌, append_assoc, filter, length, map, Option, Some, None, option_map, Result, Ok, OnOk, refl, sym, ap, subst, ◌∙◌, arith}
 use Rattle.std.proofs.lemmas.List.{append-nil, length-append}
 use Rattle.std.specs.FinMap as maps
 use Rattle.rec_types.specs.Contents.{Contents}
 use Rattle.rec_types.specs.LimitBounds.{Bounds}
 use Rattle.page_journal.specs.Files.{Files}
-use Rattle.page_journal.specs.History.{History, LeftSince, MayLeave}
-use Rattle.page_journal.specs.contracts.mem_disk.MemDiskDiskState.TheImpl.{ghosts}
 use Rattle.command_text.specs.Units.{Write}
 use Rattle.record_file.specs.Abstract.{File, new_file}
 use Rattle.record_file.specs.Durable.{overlay}
-use Rattle.record_file.specs.Runs.{Event, Run, Seen}
+use Rattle.record_file.specs.Runs.{Event, IsKeptSeen, Run, Seen, undoubted}
+use Rattle.rec_types.specs.History.{Change}
+use Rattle.rec_types.specs.Kept.{history_of}
+use Rattle.tx_log.specs.Log.{is_change}
+use Rattle.tx_log.specs.LogLaws.{change_told}
+use Rattle.tx_log.specs.Written.{own, writes}
+use Rattle.tx_log.specs.declared.log_record.LogRecord.{LogRecord}
 use Rattle.record_file.proofs.CommitLemmas.{overlay-append}
 use Rattle.record_file.specs.Steps.{active_refusal, tx_refusal}
 use Rattle.record_file.specs.declared.refusal.Refusal.TheVariants as refusals
 use Rattle.tx_log.specs.LogState.{phase_of}
 use Rattle.tx_log.specs.Transactions.{Tx}
 use Rattle.std.specs.Ordering.{nat_cmp}
-use Rattle.recfile.specs.Beside.{IsSettledWith}
-use Rattle.recfile.specs.DurableSession.{AreFirstCommits, EndsDurably, FindsCommits, FindsEachCommit}
+use Rattle.recfile.specs.DurableSession.{FindsCommits, FindsEachCommit}
 use Rattle.recfile.specs.LogOver.{Finds}
 use Rattle.recfile.specs.Overlaid.{SayWrites, writes_in_turn}
-use Rattle.recfile.specs.SessionCommits.{IsInDoubt, MakesCommits, in_doubt}
+use Rattle.recfile.specs.SessionCommits.{IsInDoubt, MakesCommits}
 use Rattle.recfile.proofs.KeptOnceLemmas.{finds_once}
 
 -- all commits are found, where none is in doubt
@@ -63,13 +66,38 @@ unmoved [] none ran = ran
 unmoved (e ∷ events) none ran = absurd (cc none)
 
 -- no transaction of a file in which nothing was begun is asked to commit
-pub doubt_unbegun : (old : Seen) (text : List ℕ) (es : List Write) (contents : Contents) (limits : Bounds) → (doubt : IsInDoubt old text es) → old.file ≡ new_file contents limits → doubt.events ≡ [] → ⊥
-doubt_unbegun old text es contents limits doubt is none =
-    let same : doubt.mid.file ≡ new_file contents limits = ap (λ (s : Seen). s.file) (unmoved doubt.events none doubt.ran) ∙ is in
+pub doubt_unbegun : (old new : Seen) (es : List Write) (contents : Contents) (limits : Bounds) → (doubt : IsInDoubt old new es) → old.file ≡ new_file contents limits → doubt.before ≡ [] → ⊥
+doubt_unbegun old new es contents limits doubt is none =
+    let same : doubt.mid.file ≡ new_file contents limits = ap (λ (s : Seen). s.file) (unmoved doubt.before none doubt.led) ∙ is in
     unasked (sym (ap (λ (o : Option Tx). active_refusal None (option_map phase_of o)) (maps.get-empty nat_cmp doubt.tx)) ∙ sym (ap (λ (f : File). tx_refusal f doubt.tx None) same) ∙ doubt.accepted)
   where
     unasked : Some refusals.NoSuchTx ≡ None → ⊥
     unasked asked = absurd (cc asked)
+
+-- what stays true of a file was true before a run
+was_kept_seen : (events : List Event) (old new : Seen) → IsKeptSeen new → Run old events new → IsKeptSeen old
+was_kept_seen [] old new kept ran = subst IsKeptSeen ran kept
+was_kept_seen (e ∷ events) old new kept ran = ran.1.kept
+
+-- a run takes nothing off the log
+log_grows : (events : List Event) (old new : Seen) → Run old events new → (more : List LogRecord) × (new.log ≡ old.log ++ more)
+log_grows [] old new ran = ([], ap (λ (s : Seen). s.log) ran ∙ sym (append-nil old.log))
+log_grows (e ∷ events) old new ran =
+    let rest = log_grows events ran.0 new ran.2 in
+    (ran.1.told.0 ++ rest.0, rest.1 ∙ ap (λ (l : List LogRecord). l ++ rest.0) ran.1.told.1 ∙ append_assoc old.log ran.1.told.0 rest.0)
+
+no_front : (front rest : List LogRecord) → [] ≡ front ++ rest → front ≡ []
+no_front [] rest is = refl
+no_front (r ∷ front) rest is = absurd (omega (arith, ap length is))
+
+-- nothing is in doubt of a session that changed nothing
+pub doubt_unwritten : (old new : Seen) (es : List Write) → IsKeptSeen new → IsInDoubt old new es → new.log ≡ [] → es ≢ [] → ⊥
+doubt_unwritten old new es kept doubt none some =
+    let grows = log_grows doubt.later (undoubted doubt.mid) (undoubted new) doubt.leads in
+    let nothing : doubt.mid.log ≡ [] = no_front doubt.mid.log grows.0 (sym none ∙ grows.1) in
+    let chained = (was_kept_seen doubt.later (undoubted doubt.mid) (undoubted new) kept doubt.leads).chained in
+    let unchanged : chained.0 ≡ [] = chained.1.told ∙ ap (λ (l : List LogRecord). map (change_told l) (filter is_change l)) nothing in
+    some (doubt.written ∙ ap (λ (h : List Change). writes (own doubt.tx h)) (sym chained.2 ∙ ap history_of unchanged))
 
 -- a commit that is kept is in the log
 pub kept_unlogged : (old new : Seen) (made : MakesCommits old new) (es : List Write) → made.kept ≡ es ∷ [] → new.commits ≡ old.commits → ⊥

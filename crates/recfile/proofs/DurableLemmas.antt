@@ -19,13 +19,13 @@ use Rattle.command_text.specs.Units.{Write, unit_commands, unit_lines}
 use Rattle.command_text.specs.declared.command.Command.{Command}
 use Rattle.record_file.specs.Abstract.{File, charged_of, new_file}
 use Rattle.record_file.specs.Durable.{CommitsKept, committed, ended, overlay}
-use Rattle.record_file.specs.Runs.{Event, Seen, undoubted}
+use Rattle.record_file.specs.Runs.{Event, Seen}
 use Rattle.record_file.proofs.CommitLemmas.{start_commits}
 use Rattle.recfile.specs.Beside.{FindsEach, FindsSome, FindsWhole, LeavesEnded, LeavesOpening, LosesNone}
 use Rattle.recfile.specs.DurableSession.{FindsCommits, FindsEachCommit, AreFirstCommits, IsBegunBeside, LeavesUnread}
 use Rattle.page_journal.specs.Crash.{StandsFor}
 use Rattle.recfile.specs.Ending.{rest_of}
-use Rattle.recfile.specs.Kept.{file_of}
+use Rattle.recfile.specs.Kept.{opening_file}
 use Rattle.recfile.specs.Run.{SaysWrites}
 use Rattle.recfile.specs.LogOver.{Finds, FindsLog, HoldsRecords, IsLogOver, head_line, said_by}
 use Rattle.recfile.specs.Overlaid.{IsLogCommand, SayWrites, writes_in_turn}
@@ -174,14 +174,14 @@ module _ (order : ℕ) (contents : Contents) (file : PageFile) (holds : HoldsRec
       )
 
   -- the file as it was opened, with what is found of its log
-  pub opening_finds : (opening : Opening) (c : Files) (units : Units) (kept doubted : List (List Write)) → file_of opening ≡ file → opening.logged ≡ true → opening.commits ≡ (head_line file ∷ []) ∷ units → DoubtIs opening.doubt doubted → SayWrites units kept → LeavesOpening opening c → FindsCommits order contents kept doubted c
+  pub opening_finds : (opening : Opening) (c : Files) (units : Units) (kept doubted : List (List Write)) → opening_file opening ≡ file → opening.logged ≡ true → opening.commits ≡ (head_line file ∷ []) ∷ units → DoubtIs opening.doubt doubted → SayWrites units kept → LeavesOpening opening c → FindsCommits order contents kept doubted c
   opening_finds opening c units kept doubted is logged commits doubt say left =
       let stands : Belongs c × (recovered c ≡ file) = (left.0.0, left.0.1 ∙ is) in
       let found = subst (λ (us : Units). SaysFirst us c ⊎ SaysDoubt us opening.doubt c) commits (subst (λ b. FindsSome b opening.log opening.commits opening.doubt c) logged left.1) in
       ⊎_elim (first_finds c units kept doubted stands say) (doubt_finds c units kept doubted opening.doubt stands say doubt) found
 
   -- and the closed file, with the log or without
-  pub ended_finds_all : (opening : Opening) (c : Files) (units : Units) (kept doubted : List (List Write)) (records : Contents) → records ≡ overlay contents (writes_in_turn kept) → file_of opening ≡ file → opening.logged ≡ true → opening.commits ≡ (head_line file ∷ []) ∷ units → DoubtIs opening.doubt doubted → SayWrites units kept → LeavesEnded opening order records c → FindsCommits order contents kept doubted c
+  pub ended_finds_all : (opening : Opening) (c : Files) (units : Units) (kept doubted : List (List Write)) (records : Contents) → records ≡ overlay contents (writes_in_turn kept) → opening_file opening ≡ file → opening.logged ≡ true → opening.commits ≡ (head_line file ∷ []) ∷ units → DoubtIs opening.doubt doubted → SayWrites units kept → LeavesEnded opening order records c → FindsCommits order contents kept doubted c
   ended_finds_all opening c units kept doubted records made is logged commits doubt say left = ⊎_elim
       (λ either.
       ⊎_elim
@@ -226,7 +226,7 @@ module _ (order : ℕ) (contents : Contents) (file : PageFile) (holds : HoldsRec
           )
 
   -- of the file as it was opened, and of the closed file
-  pub each_finds : (opening : Opening) (c : Files) (units : Units) (kept doubted : List (List Write)) (records : Contents) → records ≡ overlay contents (writes_in_turn kept) → file_of opening ≡ file → opening.logged ≡ true → opening.commits ≡ (head_line file ∷ []) ∷ units → DoubtIs opening.doubt doubted → SayWrites units kept → LeavesEnded opening order records c → LosesNone opening order records c → FindsEachCommit order contents kept doubted c
+  pub each_finds : (opening : Opening) (c : Files) (units : Units) (kept doubted : List (List Write)) (records : Contents) → records ≡ overlay contents (writes_in_turn kept) → opening_file opening ≡ file → opening.logged ≡ true → opening.commits ≡ (head_line file ∷ []) ∷ units → DoubtIs opening.doubt doubted → SayWrites units kept → LeavesEnded opening order records c → LosesNone opening order records c → FindsEachCommit order contents kept doubted c
   each_finds opening c units kept doubted records made is logged commits doubt say left loses = ⊎_elim
       (λ either.
       ⊎_elim
@@ -285,12 +285,12 @@ only_head head (u ∷ us) front some =
     no_more [] rest is = refl
     no_more (u ∷ us) rest is = absurd (cc is)
 
-pub begun_unread : (opening : Opening) (c : Files) → IsBegunBeside opening → LeavesUnread opening c → StandsFor (file_of opening) c × SaysNoneOr ((head_line (file_of opening) ∷ []) ∷ []) c
+pub begun_unread : (opening : Opening) (c : Files) → IsBegunBeside opening → LeavesUnread opening c → StandsFor (opening_file opening) c × SaysNoneOr ((head_line (opening_file opening) ∷ []) ∷ []) c
 begun_unread opening c begun left = ⊎_elim
     (λ was. (
       was.0,
       ⊎_elim
-          (λ firsts. ⊎_elim (λ none. inl none) (λ some. inr (subst (λ (us : Units). Says us c) (only_head (head_line (file_of opening) ∷ []) some.0 some.1 some.2) some.3)) firsts)
+          (λ firsts. ⊎_elim (λ none. inl none) (λ some. inr (subst (λ (us : Units). Says us c) (only_head (head_line (opening_file opening) ∷ []) some.0 some.1 some.2) some.3)) firsts)
           (λ more. absurd (text_some more.0 more.1 (sym more.2 ∙ begun.doubt)))
           (subst (λ (us : Units). SaysFirst us c ⊎ SaysDoubt us opening.doubt c) begun.commits (subst (λ b. FindsSome b opening.log opening.commits opening.doubt c) begun.logged was.1)),
     ))

@@ -1,5 +1,5 @@
 -- A session over a file beside which a log was begun.
-use Rattle.std.proofs.Common.{◌≡◌, ◌⊎◌, inl, inr, ℕ, ◌≤◌, true, List, [], ◌++◌, Option, Result, OnOk, IsTrue, if◌then◌else◌, refl, sym, ap, subst, ◌∙◌, arith}
+use Rattle.std.proofs.Common.{◌≡◌, ◌⊎◌, inl, inr, ℕ, ◌≤◌, true, List, [], ◌++◌, Option, Result, OnOk, IsTrue, if◌then◌else◌, refl, sym, ap, ◌∙◌, arith}
 use Rattle.rec_types.specs.Contents.{Contents}
 use Rattle.rec_types.specs.LimitBounds.{Bounds, most_records}
 use Rattle.page_journal.specs.Files.{PageFile}
@@ -10,7 +10,7 @@ use Rattle.record_file.specs.Durable.{overlay}
 use Rattle.record_file.specs.Runs.{Seen, seen_as, undoubted}
 use Rattle.recfile.specs.DurableSession.{logged_file}
 use Rattle.command_text.specs.Units.{Write}
-use Rattle.recfile.specs.Kept.{file_of}
+use Rattle.recfile.specs.Kept.{opening_file}
 use Rattle.recfile.specs.LogKeeping.{IsKeptBeside}
 use Rattle.recfile.specs.LogOver.{HoldsRecords, HoldsWithin}
 use Rattle.recfile.specs.Overlaid.{writes_in_turn}
@@ -47,8 +47,8 @@ module _ (contents : Contents) (limits : Bounds) (failures : ℕ) (commits : Lis
       (session.records mid_sound)
 
 -- what is kept beside a table, and what is not
-pub opening_kept : (old new : TableView) → IsKeptBeside old new → (file_of new.pages.opening ≡ file_of old.pages.opening) × (new.pages.opening.logged ≡ old.pages.opening.logged)
-opening_kept old new is = (ap (λ (o : Origin). file_of o.opening) is, ap (λ (o : Origin). o.opening.logged) is)
+pub opening_kept : (old new : TableView) → IsKeptBeside old new → (opening_file new.pages.opening ≡ opening_file old.pages.opening) × (new.pages.opening.logged ≡ old.pages.opening.logged)
+opening_kept old new is = (ap (λ (o : Origin). opening_file o.opening) is, ap (λ (o : Origin). o.opening.logged) is)
 
 pub order_kept : (old new : TableView) → IsKeptBeside old new → new.tree.order ≡ old.tree.order
 order_kept old new is = ap (λ (o : Origin). o.order) is
@@ -57,7 +57,7 @@ order_kept old new is = ap (λ (o : Origin). o.order) is
 pub doubt_is : (old new : Seen) (made : MakesCommits old new) → old.doubt ≡ [] → DoubtIs new.doubt (in_doubt made.doubted)
 doubt_is old new made none = at made.doubted
   where
-    at : (d : (new.doubt ≡ old.doubt) ⊎ ((es : List Write) × IsInDoubt old new.doubt es)) → DoubtIs new.doubt (in_doubt d)
+    at : (d : (new.doubt ≡ old.doubt) ⊎ ((es : List Write) × IsInDoubt old new es)) → DoubtIs new.doubt (in_doubt d)
     at (inl same) = inl (same ∙ none, refl)
     at (inr some) = inr (some.0, refl, some.1.says)
 

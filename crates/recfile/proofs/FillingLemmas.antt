@@ -17,8 +17,8 @@ use Rattle.btree_delete.specs.TableView.{IsClosed}
 use Rattle.btree_delete.proofs.TableViewLemmas.{no_contents}
 use Rattle.btree_load.specs.Trees.{IsFilled}
 use Rattle.btree_load.proofs.ShapeLemmas.{contents_put}
-use Rattle.recfile.specs.Filling.{IsBlank, loaded}
-use Rattle.recfile.specs.Kept.{HasRecords, IsKept}
+use Rattle.recfile.specs.Filling.{IsBlankFile, loaded}
+use Rattle.recfile.specs.Kept.{HasRecords, IsKeptWith}
 
 -- a filled file has the records that were loaded
 pub has_loaded : (order : ℕ) (records : List Element) (main found : PageFile) → Ascends records → IsFilled order main.pages main.tail records → found ≡ main → HasRecords order (loaded records) found
@@ -26,7 +26,7 @@ has_loaded order records main found up filled same =
     subst (HasRecords order (loaded records)) (sym same)
     (filled.tree, filled.order, subst (λ (m : Contents). IsClosed 2 main.pages main.tail filled.tree m) (contents_put records up) filled.closed)
 
-pub kept_loaded : {D : Type 0} (g : Ghosts D) (answer : Result (Unit {0}) StoreFault) (order : ℕ) (records : Contents) (main : PageFile) (disk : D) → (g.seen disk).main ≡ main → HasRecords order records main → OnOk answer (IsSettled g main disk) → OnOk answer (IsKept g order records disk)
+pub kept_loaded : {D : Type 0} (g : Ghosts D) (answer : Result (Unit {0}) StoreFault) (order : ℕ) (records : Contents) (main : PageFile) (disk : D) → (g.seen disk).main ≡ main → HasRecords order records main → OnOk answer (IsSettled g main disk) → OnOk answer (IsKeptWith g order records disk)
 kept_loaded g (Ok x) order records main disk same has settled = record {
   has = subst (HasRecords order records) (sym same) has;
   settled = subst (λ (f : PageFile). IsSettled g f disk) (sym same) settled;
@@ -43,7 +43,7 @@ no_root layout k stored root (suc h) es us none (n, below, spelled, least, body,
     nothing is = (cc)
 
 -- a file of one page has no records
-pub opened_blank : (stored : List (List ℕ)) (tail limit reads : ℕ) (pages : PagesView) (tree : Tree) → length stored ≡ 1 → Opens stored tail limit reads pages tree → IsBlank tree.order (record { pages = stored; tail = tail })
+pub opened_blank : (stored : List (List ℕ)) (tail limit reads : ℕ) (pages : PagesView) (tree : Tree) → length stored ≡ 1 → Opens stored tail limit reads pages tree → IsBlankFile tree.order (record { pages = stored; tail = tail })
 opened_blank stored tail limit reads pages tree one opened =
     let there = opened.clean.there in
     let low = opened.clean.begins.agrees.root in

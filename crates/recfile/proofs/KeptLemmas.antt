@@ -11,7 +11,7 @@ use Rattle.page_journal.specs.declared.disk_state.DiskState.{Ghosts}
 use Rattle.page_journal.specs.declared.recovery_fault.RecoveryFault.{RecoveryFault}
 use Rattle.page_journal.specs.declared.recovery_fault.RecoveryFault.TheVariants as recovering
 use Rattle.recfile.specs.FileFaults.{fault_of_recovery}
-use Rattle.recfile.specs.Kept.{HasRecords, IsKept, ClosesSafely, IsOutsideDisk}
+use Rattle.recfile.specs.Kept.{HasRecords, IsKeptWith, ClosesSafely, IsOutsideDisk}
 use Rattle.recfile.specs.LogOver.{HoldsRecords}
 use Rattle.recfile.specs.declared.file_fault.FileFault.{FileFault}
 
@@ -31,7 +31,7 @@ ok_mapped (Err e) (Ok y) P same known = absurd (cc)
 ok_mapped answer (Err e) P same known = tt
 
 pub kept_so : {D E : Type 0} (g : Ghosts D) (answer : Result (Unit {0}) E) (was now : TableView) (file : PageFile) (disk : D) → was.tree.order ≡ now.tree.order → table_contents was ≡ table_contents now → (g.seen disk).main ≡ file
-    → IsClosed 2 file.pages file.tail was.tree (table_contents was) → OnOk answer (IsSettled g file disk) → OnOk answer (IsKept g now.tree.order (table_contents now) disk)
+    → IsClosed 2 file.pages file.tail was.tree (table_contents was) → OnOk answer (IsSettled g file disk) → OnOk answer (IsKeptWith g now.tree.order (table_contents now) disk)
 kept_so g (Ok x) was now file disk order same is closed settled = record {
   has = has_records was now file (g.seen disk).main order same is closed;
   settled = subst (λ (f : PageFile). IsSettled g f disk) (sym is) settled;

@@ -33,7 +33,7 @@ use Rattle.page_journal.specs.Steps.{TornAt}
 use Rattle.page_journal.specs.declared.disk_call.DiskCall.TheVariants.{Write}
 use Rattle.page_journal.specs.contracts.mem_disk.MemDiskDiskState.TheImpl.{ghosts}
 use Rattle.commit_paper.specs.Text.{units_of}
-use Rattle.recfile.specs.Kept.{HasRecords, IsKept, LeavesEither, ClosesSafely}
+use Rattle.recfile.specs.Kept.{HasRecords, IsKeptWith, LeavesEither, ClosesSafely}
 use Rattle.recfile.specs.LogOver.{Finds, FindsLog, HoldsRecords, head_line}
 use Rattle.recfile.proofs.LogOverLemmas.{over_once}
 
@@ -123,7 +123,7 @@ pub finds_order : (order later : ℕ) (records others : Contents) (c : Files) �
 finds_order order later records others c finds again = one_order order later finds.under again.under (recovered c) finds.holds again.holds
 
 -- a disk is kept with one list of records
-pub kept_with_others : (disk : History) (order later : ℕ) (records others : Contents) → IsKept ghosts order records disk → records ≢ others → IsKept ghosts later others disk → ⊥
+pub kept_with_others : (disk : History) (order later : ℕ) (records others : Contents) → IsKeptWith ghosts order records disk → records ≢ others → IsKeptWith ghosts later others disk → ⊥
 kept_with_others disk order later records others kept differ again =
     let main = (ghosts.seen disk).main in
     differ (one_list 2 2 main.pages main.tail kept.has.0 again.has.0 records others kept.has.2 again.has.2)
@@ -142,12 +142,12 @@ not_written n d = record {
   commits = refl;
 }
 
-pub kept_unsynced : (main : PageFile) (page : List ℕ) (failures order : ℕ) (records : Contents) → slice_get main.pages 0 ≢ Some page → IsKept ghosts order records (record { first = alone main; calls = Write 0 page ∷ []; failures = failures }) → ⊥
+pub kept_unsynced : (main : PageFile) (page : List ℕ) (failures order : ℕ) (records : Contents) → slice_get main.pages 0 ≢ Some page → IsKeptWith ghosts order records (record { first = alone main; calls = Write 0 page ∷ []; failures = failures }) → ⊥
 kept_unsynced main page failures order records differs kept =
     let left = kept.settled.crash (alone main) (alone main, refl, not_written 0 (alone main)) in
     differs (ap (λ (m : PageFile). slice_get m.pages 0) left.0 ∙ set_first main.pages page kept.has.2.clean.begins.long.some)
 
-pub kept_with_side : (first : Files) (kept : Kept) (failures order : ℕ) (records : Contents) → first.side ≡ Some kept → IsKept ghosts order records (record { first = first; calls = []; failures = failures }) → ⊥
+pub kept_with_side : (first : Files) (kept : Kept) (failures order : ℕ) (records : Contents) → first.side ≡ Some kept → IsKeptWith ghosts order records (record { first = first; calls = []; failures = failures }) → ⊥
 kept_with_side first kept failures order records is closed = absurd (cc (sym is ∙ closed.settled.no_side))
 
 -- a page of one byte spells no header

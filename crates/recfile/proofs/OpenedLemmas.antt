@@ -18,7 +18,7 @@ use Rattle.record_file.specs.Abstract.{OpenFile, new_file}
 use Rattle.record_file.specs.Runs.{seen, seen_as}
 use Rattle.recfile.specs.Dumped.{CanBeOpened}
 use Rattle.recfile.specs.DurableSession.{logged_file}
-use Rattle.recfile.specs.Statuses.{status_of}
+use Rattle.recfile.specs.Statuses.{exit_status_of}
 use Rattle.recfile.specs.WholeSession.{IsUncounted, opened_file}
 
 -- what a table in a tree shows
@@ -83,7 +83,7 @@ can_be_opened stored tail limit reads pages tree opened = (
 )
 
 -- no status of a session whose transactions were ended is 4
-pub never_4 : (file_fault script_fault : Bool) → status_of false file_fault script_fault ≡ 4 → ⊥
+pub never_4 : (file_fault script_fault : Bool) → exit_status_of false file_fault script_fault ≡ 4 → ⊥
 never_4 true script_fault is = absurd (omega (arith, is))
 never_4 false true is = absurd (omega (arith, is))
 never_4 false false is = absurd (omega (arith, is))

@@ -18,7 +18,7 @@ use Rattle.record_file.specs.Runs as calls
 use Rattle.record_file.specs.Runs.{Called, Commit, Event, Seen, Run, is_commit, undoubted}
 use Rattle.record_file.proofs.CommitLemmas.{writes-replay}
 use Rattle.recfile.specs.Overlaid.{SayWrites, writes_in_turn}
-use Rattle.recfile.specs.Run.{AddsIf, AddsWrites, HasReply, TellsDoubt, is_accepted}
+use Rattle.recfile.specs.Run.{AddsIf, AddsWrites, HasReply, SaysWrites, TellsDoubt, is_accepted}
 use Rattle.recfile.specs.SessionCommits.{IsInDoubt, MakesCommits}
 use Rattle.recfile.specs.WholeSession.{RanAs}
 use Rattle.recfile.specs.declared.manner.Manner.{Manner}
@@ -57,21 +57,36 @@ run_append old mid new [] fs first second = subst (λ (s : Seen). Run s fs new) 
 run_append old mid new (e ∷ es) fs first second = (first.0, first.1, run_append first.0 mid new es fs first.2 second)
 
 -- what came into doubt in the second of two runs, or in the first
-doubted_on : (a b c : Seen) → MakesCommits a b → MakesCommits b c → (c.doubt ≡ a.doubt) ⊎ ((es : List Write) × IsInDoubt a c.doubt es)
+doubted_on : (a b c : Seen) → MakesCommits a b → MakesCommits b c → (c.doubt ≡ a.doubt) ⊎ ((es : List Write) × IsInDoubt a c es)
 doubted_on a b c first second = at first.doubted second.doubted
   where
-    at : (b.doubt ≡ a.doubt) ⊎ ((es : List Write) × IsInDoubt a b.doubt es) → (c.doubt ≡ b.doubt) ⊎ ((es : List Write) × IsInDoubt b c.doubt es) → (c.doubt ≡ a.doubt) ⊎ ((es : List Write) × IsInDoubt a c.doubt es)
+    at : (b.doubt ≡ a.doubt) ⊎ ((es : List Write) × IsInDoubt a b es) → (c.doubt ≡ b.doubt) ⊎ ((es : List Write) × IsInDoubt b c es) → (c.doubt ≡ a.doubt) ⊎ ((es : List Write) × IsInDoubt a c es)
     at (inl was) (inl stays) = inl (stays ∙ was)
-    at (inr some) (inl stays) = inr (some.0, subst (λ (d : List ℕ). IsInDoubt a d some.0) (sym stays) some.1)
+    at (inr some) (inl stays) = inr (
+      some.0,
+      record {
+        mid = some.1.mid;
+        before = some.1.before;
+        led = some.1.led;
+        tx = some.1.tx;
+        accepted = some.1.accepted;
+        written = some.1.written;
+        later = some.1.later ++ second.events;
+        leads = run_append (undoubted some.1.mid) (undoubted b) (undoubted c) some.1.later second.events some.1.leads (kept_run (undoubted b) (undoubted c) second.events (writes_in_turn second.kept) second.ran);
+        says = subst (λ (d : List ℕ). SaysWrites some.0 d) (sym stays) some.1.says;
+      },
+    )
     at was (inr some) = inr (
       some.0,
       record {
         mid = some.1.mid;
-        events = first.events ++ some.1.events;
-        ran = run_append (undoubted a) (undoubted b) (undoubted some.1.mid) first.events some.1.events (kept_run (undoubted a) (undoubted b) first.events (writes_in_turn first.kept) first.ran) some.1.ran;
+        before = first.events ++ some.1.before;
+        led = run_append (undoubted a) (undoubted b) (undoubted some.1.mid) first.events some.1.before (kept_run (undoubted a) (undoubted b) first.events (writes_in_turn first.kept) first.ran) some.1.led;
         tx = some.1.tx;
         accepted = some.1.accepted;
         written = some.1.written;
+        later = some.1.later;
+        leads = some.1.leads;
         says = some.1.says;
       },
     )
@@ -212,42 +227,42 @@ accepted_made old new t has sound logged =
     commit_made old new t (writes (own t.0 old.file.history)) one.0 one.2 (subst (λ (es : List Event). Run (undoubted old) es (undoubted new)) one.1 has.ran) has.doubt refl (adds_where old.logged old.commits (writes (own t.0 old.file.history)) new.commits logged (has.kept sound))
 
 -- what the reply to a command leaves in doubt
-reply_doubts : (old new : Seen) (entry : Read Command) (answer : Reply) → TellsDoubt old entry answer new → (new.doubt ≡ old.doubt) ⊎ ((es : List Write) × IsInDoubt old new.doubt es)
-reply_doubts old new (Ok (command.Commit t)) (reply.Unkept unkept.Doubt) told = ⊎_elim
+reply_doubts : (old new : Seen) (events : List Event) → Run (undoubted old) events (undoubted new) → (entry : Read Command) (answer : Reply) → TellsDoubt old entry answer new → (new.doubt ≡ old.doubt) ⊎ ((es : List Write) × IsInDoubt old new es)
+reply_doubts old new events ran (Ok (command.Commit t)) (reply.Unkept unkept.Doubt) told = ⊎_elim
     (λ stays. inl stays)
-    (λ some. inr (writes (own t.0 old.file.history), record { mid = old; events = []; ran = refl; tx = t.0; accepted = some.0; written = refl; says = some.1 }))
+    (λ some. inr (writes (own t.0 old.file.history), record { mid = old; before = []; led = refl; tx = t.0; accepted = some.0; written = refl; later = events; leads = ran; says = some.1 }))
     told
-reply_doubts old new (Ok (command.Commit t)) (reply.Commit a0) told = inl told
-reply_doubts old new (Ok (command.Commit t)) (reply.Begin a0) told = inl told
-reply_doubts old new (Ok (command.Commit t)) (reply.Put a0) told = inl told
-reply_doubts old new (Ok (command.Commit t)) (reply.Claim a0) told = inl told
-reply_doubts old new (Ok (command.Commit t)) (reply.Del a0) told = inl told
-reply_doubts old new (Ok (command.Commit t)) (reply.Get a0) told = inl told
-reply_doubts old new (Ok (command.Commit t)) (reply.Save a0) told = inl told
-reply_doubts old new (Ok (command.Commit t)) (reply.Release a0) told = inl told
-reply_doubts old new (Ok (command.Commit t)) (reply.Back a0) told = inl told
-reply_doubts old new (Ok (command.Commit t)) (reply.Resume a0) told = inl told
-reply_doubts old new (Ok (command.Commit t)) (reply.Abort a0) told = inl told
-reply_doubts old new (Ok (command.Commit t)) (reply.List a0) told = inl told
-reply_doubts old new (Ok (command.Commit t)) (reply.Keys a0) told = inl told
-reply_doubts old new (Ok (command.Commit t)) (reply.Log a0 a1) told = inl told
-reply_doubts old new (Ok (command.Commit t)) (reply.Unkept unkept.Memory) told = inl told
-reply_doubts old new (Ok (command.Commit t)) (reply.Unkept unkept.Device) told = inl told
-reply_doubts old new (Ok (command.Commit t)) (reply.Bad a0) told = inl told
-reply_doubts old new (Ok command.Begin) answer told = inl told
-reply_doubts old new (Ok (command.Put a0 a1 a2)) answer told = inl told
-reply_doubts old new (Ok (command.Claim a0 a1)) answer told = inl told
-reply_doubts old new (Ok (command.Del a0 a1)) answer told = inl told
-reply_doubts old new (Ok (command.Get a0 a1)) answer told = inl told
-reply_doubts old new (Ok (command.Save a0)) answer told = inl told
-reply_doubts old new (Ok (command.Release a0 a1)) answer told = inl told
-reply_doubts old new (Ok (command.Back a0 a1)) answer told = inl told
-reply_doubts old new (Ok (command.Resume a0)) answer told = inl told
-reply_doubts old new (Ok (command.Abort a0)) answer told = inl told
-reply_doubts old new (Ok command.List) answer told = inl told
-reply_doubts old new (Ok (command.Keys a0)) answer told = inl told
-reply_doubts old new (Ok command.Log) answer told = inl told
-reply_doubts old new (Err fault) answer told = inl told
+reply_doubts old new events ran (Ok (command.Commit t)) (reply.Commit a0) told = inl told
+reply_doubts old new events ran (Ok (command.Commit t)) (reply.Begin a0) told = inl told
+reply_doubts old new events ran (Ok (command.Commit t)) (reply.Put a0) told = inl told
+reply_doubts old new events ran (Ok (command.Commit t)) (reply.Claim a0) told = inl told
+reply_doubts old new events ran (Ok (command.Commit t)) (reply.Del a0) told = inl told
+reply_doubts old new events ran (Ok (command.Commit t)) (reply.Get a0) told = inl told
+reply_doubts old new events ran (Ok (command.Commit t)) (reply.Save a0) told = inl told
+reply_doubts old new events ran (Ok (command.Commit t)) (reply.Release a0) told = inl told
+reply_doubts old new events ran (Ok (command.Commit t)) (reply.Back a0) told = inl told
+reply_doubts old new events ran (Ok (command.Commit t)) (reply.Resume a0) told = inl told
+reply_doubts old new events ran (Ok (command.Commit t)) (reply.Abort a0) told = inl told
+reply_doubts old new events ran (Ok (command.Commit t)) (reply.List a0) told = inl told
+reply_doubts old new events ran (Ok (command.Commit t)) (reply.Keys a0) told = inl told
+reply_doubts old new events ran (Ok (command.Commit t)) (reply.Log a0 a1) told = inl told
+reply_doubts old new events ran (Ok (command.Commit t)) (reply.Unkept unkept.Memory) told = inl told
+reply_doubts old new events ran (Ok (command.Commit t)) (reply.Unkept unkept.Device) told = inl told
+reply_doubts old new events ran (Ok (command.Commit t)) (reply.Bad a0) told = inl told
+reply_doubts old new events ran (Ok command.Begin) answer told = inl told
+reply_doubts old new events ran (Ok (command.Put a0 a1 a2)) answer told = inl told
+reply_doubts old new events ran (Ok (command.Claim a0 a1)) answer told = inl told
+reply_doubts old new events ran (Ok (command.Del a0 a1)) answer told = inl told
+reply_doubts old new events ran (Ok (command.Get a0 a1)) answer told = inl told
+reply_doubts old new events ran (Ok (command.Save a0)) answer told = inl told
+reply_doubts old new events ran (Ok (command.Release a0 a1)) answer told = inl told
+reply_doubts old new events ran (Ok (command.Back a0 a1)) answer told = inl told
+reply_doubts old new events ran (Ok (command.Resume a0)) answer told = inl told
+reply_doubts old new events ran (Ok (command.Abort a0)) answer told = inl told
+reply_doubts old new events ran (Ok command.List) answer told = inl told
+reply_doubts old new events ran (Ok (command.Keys a0)) answer told = inl told
+reply_doubts old new events ran (Ok command.Log) answer told = inl told
+reply_doubts old new events ran (Err fault) answer told = inl told
 
 -- what the reply to a command keeps
 pub reply_made : (old new : Seen) (entry : Read Command) (answer : Reply) → HasReply old entry answer new → IsTrue old.sound → IsTrue old.logged → MakesCommits old new
@@ -268,7 +283,7 @@ reply_made old new entry answer has sound logged = at (is_accepted entry answer)
           ran = quiet.0;
           sound = quiet.2;
           logged = quiet.3;
-          doubted = reply_doubts old new entry answer has.doubt;
+          doubted = reply_doubts old new has.events has.ran entry answer has.doubt;
         }
 
 -- and so a session, whatever its manner

@@ -1,19 +1,20 @@
 -- What puts no page file right, by disks in memory.
-use Rattle.std.proofs.Common.{◌≡◌, ◌≢◌, ⊎_elim, ℕ, None, Result, Ok, Err, refl, sym, ◌∙◌}
+use Rattle.std.proofs.Common.{◌≡◌, ◌≢◌, ⊎_elim, ℕ, ◌<◌, true, None, Result, Ok, Err, refl, ap, ◌∙◌, arith}
 use Rattle.rec_types.specs.Contents.{Contents}
-use Rattle.page_journal.specs.Files.{Files, Belongs}
+use Rattle.rec_types.specs.Table.{counted, greatest_count}
+use Rattle.page_journal.specs.Files.{Files, Belongs, recovered}
 use Rattle.page_journal.specs.History.{History, LeftSince}
 use Rattle.page_journal.specs.contracts.mem_disk.MemDiskDiskState.TheImpl.{ghosts}
 use Rattle.btree_delete.specs.declared.opening.open_fault.OpenFault.{OpenFault}
 use Rattle.btree_delete.specs.declared.opening.open_fault.OpenFault.TheVariants as opening
-use Rattle.recfile.specs.Beside.{IsSettlingFault}
-use Rattle.recfile.specs.Dumped.{IsOutsideFile}
 use Rattle.recfile.specs.FileFaults.{fault_of_opening}
 use Rattle.recfile.specs.LogOver.{Finds, HoldsRecords}
-use Rattle.recfile.specs.Settling.{PutsRight}
+use Rattle.recfile.specs.Settling.{FindsAny, PutsRight}
 use Rattle.recfile.specs.declared.file_fault.FileFault.{FileFault}
-use Rattle.recfile.specs.declared.file_fault.FileFault.TheVariants.{BadCommits, BadJournal}
+use Rattle.recfile.specs.declared.file_fault.FileFault.TheVariants.{BadCommits, BadJournal, Device}
+use Rattle.recfile.proofs.ClosingCountLemmas.{no_less, one_more}
 use Rattle.recfile.proofs.KeptOnceLemmas.{finds_once, held_once}
+use Rattle.recfile.proofs.SettlingLemmas.{not_outside, not_settling}
 
 pub settled_with_others : (old new : History) (order later : ℕ) (records others : Contents) → Finds order records old.first → records ≢ others → PutsRight ghosts old (Ok tt) new → HoldsRecords later others (ghosts.seen new).main → ⊥
 settled_with_others old new order later records others finds differ right held =
@@ -26,11 +27,8 @@ pub lost_by_settling : (old new : History) (answer : Result (Unit {0}) FileFault
 lost_by_settling old new answer order later records others left finds right crashed differ found =
     differ (finds_once order later records others left (right.kept refl order records finds left crashed) found)
 
-not_outside : (fault : FileFault) → IsOutsideFile fault → (fault ≡ BadJournal → ⊥) × (fault ≡ BadCommits → ⊥)
-not_outside fault outside = ⊎_elim
-    (λ device. (λ bad. absurd (cc (sym device ∙ bad)), λ bad. absurd (cc (sym device ∙ bad))))
-    (λ memory. (λ bad. absurd (cc (sym memory ∙ bad)), λ bad. absurd (cc (sym memory ∙ bad))))
-    outside
+pub unfound_stays : (old new : History) (answer : Result (Unit {0}) FileFault) (left : Files) → (FindsAny old.first → ⊥) → PutsRight ghosts old answer new → LeftSince new.first new.calls 0 left → recovered left ≢ recovered old.first → ⊥
+unfound_stays old new answer left none right crashed differ = differ (right.unfound refl none left crashed).0.1
 
 not_opening : (fault : OpenFault) → BadJournal ≡ fault_of_opening fault → ⊥
 not_opening opening.Device is = absurd (cc is)
@@ -44,11 +42,6 @@ not_opening (opening.Damaged page) is = absurd (cc is)
 not_opening opening.WrongCount is = absurd (cc is)
 not_opening opening.TooManyRecords is = absurd (cc is)
 not_opening opening.Memory is = absurd (cc is)
-
-not_settling : (fault : FileFault) → IsSettlingFault fault → (fault ≡ BadJournal → ⊥) × (fault ≡ BadCommits → ⊥)
-not_settling fault why = ⊎_elim (not_outside fault)
-    (λ many. (λ bad. absurd (cc (sym many ∙ bad)), λ bad. absurd (cc (sym many ∙ bad))))
-    why
 
 pub journal_of_own : (old new : History) → Belongs old.first → PutsRight ghosts old (Err BadJournal) new → ⊥
 journal_of_own old new own right = ⊎_elim
@@ -65,3 +58,12 @@ journal_of_own old new own right = ⊎_elim
 
 pub commits_of_own : (old new : History) (order : ℕ) (records : Contents) → Finds order records old.first → PutsRight ghosts old (Err BadCommits) new → ⊥
 commits_of_own old new order records finds right = (not_settling BadCommits (right.found refl order records finds)).1 refl
+
+-- what the disk failed in
+pub unfailed_device : (old new : History) → old.failures < greatest_count → PutsRight ghosts old (Err Device) new → new.failures ≡ old.failures → ⊥
+unfailed_device old new low right same =
+    let more = one_more old.failures low in
+    absurd (omega (arith, right.failures.failures, more, no_less (counted old.failures true) right.failures.again, same))
+
+pub failed_unsaid : (old new : History) → PutsRight ghosts old (Ok tt) new → new.failures ≢ old.failures → ⊥
+failed_unsaid old new right differ = differ (right.failures.failures ∙ ap (counted old.failures) (right.failures.once refl))

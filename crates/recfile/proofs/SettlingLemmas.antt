@@ -3,7 +3,7 @@ use Rattle.std.proofs.Common.{◌≡◌, ⊎_elim, inl, inr, ℕ, ◌≤◌, Boo
 use Rattle.rec_types.specs.Contents.{Contents}
 use Rattle.page_store.specs.Opening.{Opening}
 use Rattle.page_journal.specs.Files.{PageFile, Kept, Files, BelongsTo, Belongs, recovered, recovered_by}
-use Rattle.page_journal.specs.Crash.{IsSettled, LeavesOnly, LeavesPages, StandsFor, pages_of}
+use Rattle.page_journal.specs.Crash.{IsSettled, LeavesOnly, LeavesPages, StandsAs, StandsFor, pages_of}
 use Rattle.page_journal.specs.Logging.{HasLogOf, HasNoLog}
 use Rattle.page_journal.specs.LoggedStores.{FindsAll, FindsNow, MayFind}
 use Rattle.page_journal.specs.declared.disk_state.DiskState.{Ghosts}
@@ -28,7 +28,7 @@ use Rattle.page_journal.specs.declared.seal_state.SealState.{SealState}
 use Rattle.page_journal.specs.declared.seal_state.SealState.TheVariants as states
 use Rattle.recfile.specs.DurableSession.{LeavesUnread}
 use Rattle.recfile.specs.Settling.{FindsAny, IsUnsettledOver}
-use Rattle.recfile.specs.Kept.{file_of, is_sealed, refusals_of}
+use Rattle.recfile.specs.Kept.{opening_file, is_sealed, refused_calls}
 use Rattle.recfile.proofs.ClosingCountLemmas.{is_stopped}
 use Rattle.recfile.specs.LogOver.{Finds, FindsLog, HoldsRecords, IsLogOver, head_line}
 use Rattle.recfile.proofs.LogOverLemmas.{over_again}
@@ -117,7 +117,7 @@ module _ {D : Type 0} (g : Ghosts D) (counts : (disk : D) (t : ℕ) (c : Files) 
   unread_leaves opening old new before pages logs c left = ⊎_elim
       (λ was. inl (before c was))
       (λ part.
-      let stands = stands_same (file_of opening) c part.0 part.2 (before part.0 (counts old 0 part.0 (omega arith) part.1)).0 in
+      let stands = stands_same (opening_file opening) c part.0 part.2 (before part.0 (counts old 0 part.0 (omega arith) part.1)).0 in
       ⊎_elim
       (λ was. inl (before c was))
       (λ log.
@@ -158,7 +158,7 @@ files_find order records old c finds leaves = record {
 }
 
 -- and in what a stop of settling leaves
-pub ended_finds : (order : ℕ) (records : Contents) (old c : Files) (opening : Opening) (bytes : List ℕ) → file_of opening ≡ recovered old → opening.log ≡ old.commits.log → opening.logged ≡ false → old.commits.log ≡ Some bytes → Finds order records old → LeavesEnded opening order records c → Finds order records c
+pub ended_finds : (order : ℕ) (records : Contents) (old c : Files) (opening : Opening) (bytes : List ℕ) → opening_file opening ≡ recovered old → opening.log ≡ old.commits.log → opening.logged ≡ false → old.commits.log ≡ Some bytes → Finds order records old → LeavesEnded opening order records c → Finds order records c
 ended_finds order records old c opening bytes file log unlogged is finds left = ⊎_elim
     (λ either.
     ⊎_elim
@@ -191,7 +191,7 @@ pub over_found : (head : List ℕ) (under records : Contents) (log : Option (Lis
 over_found head under records log bytes is over = subst (λ (l : Option (List ℕ)). FindsLog head under records l) (sym is) over
 
 -- what a store leaves over which no log was begun
-pub unlogged_leaves : (old c : Files) (opening : Opening) → file_of opening ≡ recovered old → opening.log ≡ old.commits.log → opening.logged ≡ false → LeavesOpening opening c → LeavesFiles old c
+pub unlogged_leaves : (old c : Files) (opening : Opening) → opening_file opening ≡ recovered old → opening.log ≡ old.commits.log → opening.logged ≡ false → LeavesOpening opening c → LeavesFiles old c
 unlogged_leaves old c opening file log unlogged left = (
   subst (λ (f : PageFile). StandsFor f c) file left.0,
   subst (λ (b : Bool). FindsSome b opening.log opening.commits opening.doubt c) unlogged left.1 ∙ log,
@@ -203,13 +203,13 @@ unlogged None is = refl
 unlogged (Some place) is = absurd (cc is)
 
 pub unused : (state : SealState) (kept : List Bool) (refusals : ℕ) → guard_of state kept refusals ≡ Unsealed 0 → (state ≡ states.Unsealed) × (refusals ≡ 0)
-unused states.Unsealed kept refusals is = (refl, ap refusals_of is)
+unused states.Unsealed kept refusals is = (refl, ap refused_calls is)
 unused states.Sealed kept refusals is = absurd (cc (ap is_sealed is))
 unused states.Stopped kept refusals is = absurd (cc (ap is_stopped is))
 
 -- of a store that was at most read since
-pub still_unlogged : {opening : Opening} (old : Files) (log : Option LogPlace) (commits : Units) (doubt : List ℕ) → opening ≡ opened_over old log commits doubt → log ≡ None → (file_of opening ≡ recovered old) × (opening.log ≡ old.commits.log) × (opening.logged ≡ false)
-still_unlogged old log commits doubt same none = (ap (λ (o : Opening). file_of o) same, ap (λ (o : Opening). o.log) same, ap (λ (o : Opening). o.logged) same ∙ ap (λ (l : Option LogPlace). is_some l) none)
+pub still_unlogged : {opening : Opening} (old : Files) (log : Option LogPlace) (commits : Units) (doubt : List ℕ) → opening ≡ opened_over old log commits doubt → log ≡ None → (opening_file opening ≡ recovered old) × (opening.log ≡ old.commits.log) × (opening.logged ≡ false)
+still_unlogged old log commits doubt same none = (ap (λ (o : Opening). opening_file o) same, ap (λ (o : Opening). o.log) same, ap (λ (o : Opening). o.logged) same ∙ ap (λ (l : Option LogPlace). is_some l) none)
 
 -- a closed file has the length of one
 pub head_settles : (fault : FileFault) (order : ℕ) (records : Contents) (file : PageFile) → HoldsRecords order records file → IsHeadFault file.pages file.tail fault → IsSettlingFault fault
@@ -243,6 +243,22 @@ store_outside stores.Memory named is = inr is
 pub store_commits : (fault : StoreFault) (named : FileFault) → named ≡ fault_of_store fault → named ≡ faults.BadCommits → ⊥
 store_commits stores.Failed named is bad = absurd (cc (sym is ∙ bad))
 store_commits stores.Memory named is bad = absurd (cc (sym is ∙ bad))
+
+-- which faults are none of settling
+pub not_outside : (fault : FileFault) → IsOutsideFile fault → (fault ≡ faults.BadJournal → ⊥) × (fault ≡ faults.BadCommits → ⊥)
+not_outside fault outside = ⊎_elim
+    (λ device. (λ bad. absurd (cc (sym device ∙ bad)), λ bad. absurd (cc (sym device ∙ bad))))
+    (λ memory. (λ bad. absurd (cc (sym memory ∙ bad)), λ bad. absurd (cc (sym memory ∙ bad))))
+    outside
+
+pub not_settling : (fault : FileFault) → IsSettlingFault fault → (fault ≡ faults.BadJournal → ⊥) × (fault ≡ faults.BadCommits → ⊥)
+not_settling fault why = ⊎_elim (not_outside fault)
+    (λ many. (λ bad. absurd (cc (sym many ∙ bad)), λ bad. absurd (cc (sym many ∙ bad))))
+    why
+
+-- files that stand for what these stood for
+pub files_stand : (old c : Files) → LeavesFiles old c → StandsAs old c × (c.commits.log ≡ old.commits.log)
+files_stand old c left = ((λ own. left.0.0, left.0.1), left.1)
 
 -- why a file with a log beside it isn't put right, and where records are found
 abbrev pub IsStop : Files → FileFault → Type 0

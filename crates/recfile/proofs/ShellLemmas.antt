@@ -13,9 +13,9 @@ use Rattle.command_text.specs.Script.{HasNoLf, bounded_entries_in, bounded_line_
 use Rattle.command_text.specs.Texts.{text_of}
 use Rattle.recfile.specs.declared.shell.Counts.{Counts}
 use Rattle.recfile.specs.declared.script.RunFault.{RunFault}
-use Rattle.recfile.specs.PartLine.{IsPart, Part, no_part}
+use Rattle.recfile.specs.PartLine.{IsPartOfLine, Part, no_part}
 use Rattle.recfile.specs.Run.{Session, commands, says_command}
-use Rattle.recfile.specs.Shell.{Answered, AnsweredSoFar, Come, IsAnswered, LineAnswered, LineStops, RanLines, Start, StopsAt, counted_to}
+use Rattle.recfile.specs.Shell.{LinesAnswered, AnsweredSoFar, Come, IsAnswered, LineAnswered, LineStops, RanLines, Start, StopsAtLine, counted_to}
 use Rattle.recfile.proofs.FedLemmas.{fed_none, fed_on, fed_end, ended_so_far, lines_at_end, ended_at}
 use Rattle.recfile.proofs.ScriptRunLemmas.{entry_of, keep-append, session-more, commands-more, written-none, written-more, accepted-more, length-more}
 
@@ -33,7 +33,7 @@ none_so_far strict held old part counts is none = record {
   passed = [];
   begun = [];
   fed = fed_none;
-  kept = subst (λ (p : Part). IsPart p []) (sym is) (record { kept = λ _. refl; fits = λ _. omega arith; longer = λ never. absurd (cc) });
+  kept = subst (λ (p : Part). IsPartOfLine p []) (sym is) (record { kept = λ _. refl; fits = λ _. omega arith; longer = λ never. absurd (cc) });
   answered = record { replies = []; ran = refl; written = written-none held; accepted = λ strict. All-nil _ };
   done = ap (λ (c : Counts). c.done) none;
   number = ap (λ (c : Counts). c.lines) none;
@@ -52,7 +52,7 @@ commands_with passed line said is = ap commands (entries_with passed line said i
     at (Err fault) = commands-more (bounded_entries_in passed) (Err fault)
 
 -- one more line is answered
-answered_with : (strict : Bool) (held between holds : Option (List ℕ)) (old mid new : Seen) (passed : List (List ℕ)) (line : List ℕ) (said : Read (Option Command)) → Answered strict held between old passed mid → said ≡ bounded_line_of line → LineAnswered strict between holds mid said new → Answered strict held holds old (passed ++ line ∷ []) new
+answered_with : (strict : Bool) (held between holds : Option (List ℕ)) (old mid new : Seen) (passed : List (List ℕ)) (line : List ℕ) (said : Read (Option Command)) → LinesAnswered strict held between old passed mid → said ≡ bounded_line_of line → LineAnswered strict between holds mid said new → LinesAnswered strict held holds old (passed ++ line ∷ []) new
 answered_with strict held between holds old mid new passed line said before is (inl nothing) =
     let entries : bounded_entries_in (passed ++ line ∷ []) ≡ bounded_entries_in passed = entries_with passed line said is ∙ ap (λ (l : Read (Option Command)). bounded_entries_in passed ++ keep l []) nothing.0 ∙ append-nil (bounded_entries_in passed) in
     record {
@@ -73,7 +73,7 @@ answered_with strict held between holds old mid new passed line said before is (
 
 -- the line that has begun is ended by these bytes, with no LF in them, and answered
 pub so_far_ended : (strict : Bool) (held between holds : Option (List ℕ)) (old mid new : Seen) (taken last : List ℕ) (part next : Part) (counts more : Counts) (said : Read (Option Command))
-    → AnsweredSoFar strict held between old mid taken part counts → HasNoLf last → ((begun : List ℕ) → IsPart part begun → said ≡ bounded_line_of (begun ++ last)) → next ≡ no_part
+    → AnsweredSoFar strict held between old mid taken part counts → HasNoLf last → ((begun : List ℕ) → IsPartOfLine part begun → said ≡ bounded_line_of (begun ++ last)) → next ≡ no_part
     → LineAnswered strict between holds mid said new → more.done ≡ counted_to (counts.done + (if says_command said then 1 else 0)) → more.lines ≡ counted_to (counts.lines + 1)
     → AnsweredSoFar strict held holds old new (taken ++ (last ++ 10 ∷ [])) next more
 so_far_ended strict held between holds old mid new taken last part next counts more said so_far none reads cleared answered done number =
@@ -83,7 +83,7 @@ so_far_ended strict held between holds old mid new taken last part next counts m
       passed = so_far.passed ++ line ∷ [];
       begun = [];
       fed = fed_end taken so_far.passed so_far.begun last so_far.fed none;
-      kept = subst (λ (p : Part). IsPart p []) (sym cleared) (record { kept = λ _. refl; fits = λ _. omega arith; longer = λ never. absurd (cc) });
+      kept = subst (λ (p : Part). IsPartOfLine p []) (sym cleared) (record { kept = λ _. refl; fits = λ _. omega arith; longer = λ never. absurd (cc) });
       answered = answered_with strict held between holds old mid new so_far.passed line said so_far.answered says answered;
       done = done ∙ counts_on counts.done (if says_command said then 1 else 0) (commands (bounded_entries_in so_far.passed)) (commands (bounded_entries_in (so_far.passed ++ line ∷ []))) so_far.done (commands_with so_far.passed line said says);
       number = number ∙ counts_on counts.lines 1 (length so_far.passed) (length (so_far.passed ++ line ∷ [])) so_far.number (sym (length-more so_far.passed line));
@@ -91,7 +91,7 @@ so_far_ended strict held between holds old mid new taken last part next counts m
 
 -- more of the line that has begun
 pub so_far_on : (strict : Bool) (held holds : Option (List ℕ)) (old new : Seen) (taken piece : List ℕ) (part next : Part) (counts : Counts)
-    → AnsweredSoFar strict held holds old new taken part counts → HasNoLf piece → ((begun : List ℕ) → IsPart part begun → IsPart next (begun ++ piece))
+    → AnsweredSoFar strict held holds old new taken part counts → HasNoLf piece → ((begun : List ℕ) → IsPartOfLine part begun → IsPartOfLine next (begun ++ piece))
     → AnsweredSoFar strict held holds old new (taken ++ piece) next counts
 so_far_on strict held holds old new taken piece part next counts so_far none keeps = record {
   passed = so_far.passed;
@@ -105,10 +105,10 @@ so_far_on strict held holds old new taken piece part next counts so_far none kee
 
 -- the line that has begun is ended by these bytes, and ends the run
 stops_at_line : (strict : Bool) (held between holds : Option (List ℕ)) (old mid new : Seen) (taken last : List ℕ) (part : Part) (counts more : Counts) (said : Read (Option Command)) (fault : RunFault) (lines after : List (List ℕ))
-    → (so_far : AnsweredSoFar strict held between old mid taken part counts) → ((begun : List ℕ) → IsPart part begun → said ≡ bounded_line_of (begun ++ last))
+    → (so_far : AnsweredSoFar strict held between old mid taken part counts) → ((begun : List ℕ) → IsPartOfLine part begun → said ≡ bounded_line_of (begun ++ last))
     → lines ≡ so_far.passed ++ (so_far.begun ++ last) ∷ after
     → LineStops strict between holds mid said new more.done more.lines fault → more.done ≡ counted_to (counts.done + (if says_command said then 1 else 0)) → more.lines ≡ counted_to (counts.lines + 1)
-    → StopsAt strict held holds old new lines fault
+    → StopsAtLine strict held holds old new lines fault
 stops_at_line strict held between holds old mid new taken last part counts more said fault lines after so_far reads are stops done number =
     let line : List ℕ = so_far.begun ++ last in
     let says : said ≡ bounded_line_of line = reads so_far.begun so_far.kept in
@@ -129,10 +129,10 @@ stops_at_line strict held between holds old mid new taken last part counts more 
 
 -- a line with its LF
 pub stops_ended : (strict : Bool) (held between holds : Option (List ℕ)) (old mid new : Seen) (taken last rest text : List ℕ) (part : Part) (counts more : Counts) (said : Read (Option Command)) (fault : RunFault)
-    → AnsweredSoFar strict held between old mid taken part counts → HasNoLf last → ((begun : List ℕ) → IsPart part begun → said ≡ bounded_line_of (begun ++ last))
+    → AnsweredSoFar strict held between old mid taken part counts → HasNoLf last → ((begun : List ℕ) → IsPartOfLine part begun → said ≡ bounded_line_of (begun ++ last))
     → text ≡ taken ++ (last ++ 10 ∷ rest)
     → LineStops strict between holds mid said new more.done more.lines fault → more.done ≡ counted_to (counts.done + (if says_command said then 1 else 0)) → more.lines ≡ counted_to (counts.lines + 1)
-    → StopsAt strict held holds old new (ended_lines text) fault
+    → StopsAtLine strict held holds old new (ended_lines text) fault
 stops_ended strict held between holds old mid new taken last rest text part counts more said fault so_far none reads is stops done number =
     stops_at_line strict held between holds old mid new taken last part counts more said fault (ended_lines text) (ended_lines rest) so_far reads (ap ended_lines is ∙ ended_at taken so_far.passed so_far.begun last rest so_far.fed none) stops done number
 
@@ -146,43 +146,43 @@ no_last_line [] none = refl
 no_last_line (b ∷ bs) none = absurd (grind (arith, nat_tests))
 
 -- all lines, where one has begun
-lines_with_last : (strict : Bool) (held holds : Option (List ℕ)) (old new : Seen) (taken : List ℕ) (part : Part) (counts : Counts) (empty : Bool) (so_far : AnsweredSoFar strict held holds old new taken part counts) → ((begun : List ℕ) → IsPart part begun → empty ≡ (length begun == 0)) → empty ≡ false → lines_of taken ≡ so_far.passed ++ (so_far.begun ++ []) ∷ []
+lines_with_last : (strict : Bool) (held holds : Option (List ℕ)) (old new : Seen) (taken : List ℕ) (part : Part) (counts : Counts) (empty : Bool) (so_far : AnsweredSoFar strict held holds old new taken part counts) → ((begun : List ℕ) → IsPartOfLine part begun → empty ≡ (length begun == 0)) → empty ≡ false → lines_of taken ≡ so_far.passed ++ (so_far.begun ++ []) ∷ []
 lines_with_last strict held holds old new taken part counts empty so_far tells some =
     lines_at_end taken so_far.passed so_far.begun so_far.fed
     ∙ ap (λ ls. so_far.passed ++ ls) (last_line so_far.begun (sym (tells so_far.begun so_far.kept) ∙ some) ∙ ap (λ (l : List ℕ). l ∷ []) (sym (append-nil so_far.begun)))
 
 pub stops_last : (strict : Bool) (held between holds : Option (List ℕ)) (old mid new : Seen) (taken : List ℕ) (part : Part) (counts more : Counts) (said : Read (Option Command)) (fault : RunFault) (empty : Bool)
-    → AnsweredSoFar strict held between old mid taken part counts → ((begun : List ℕ) → IsPart part begun → empty ≡ (length begun == 0)) → empty ≡ false
-    → ((begun : List ℕ) → IsPart part begun → said ≡ bounded_line_of (begun ++ []))
+    → AnsweredSoFar strict held between old mid taken part counts → ((begun : List ℕ) → IsPartOfLine part begun → empty ≡ (length begun == 0)) → empty ≡ false
+    → ((begun : List ℕ) → IsPartOfLine part begun → said ≡ bounded_line_of (begun ++ []))
     → LineStops strict between holds mid said new more.done more.lines fault → more.done ≡ counted_to (counts.done + (if says_command said then 1 else 0)) → more.lines ≡ counted_to (counts.lines + 1)
-    → StopsAt strict held holds old new (lines_of taken) fault
+    → StopsAtLine strict held holds old new (lines_of taken) fault
 stops_last strict held between holds old mid new taken part counts more said fault empty so_far tells some reads stops done number =
     stops_at_line strict held between holds old mid new taken [] part counts more said fault (lines_of taken) [] so_far reads (lines_with_last strict held between old mid taken part counts empty so_far tells some) stops done number
 
 -- all lines are answered, and so many commands were run
 abbrev pub AllAnswered : Bool → Option (List ℕ) → Option (List ℕ) → Seen → List ℕ → Seen → ℕ → Type 0
-AllAnswered strict held holds old taken new done = Answered strict held holds old (lines_of taken) new × (done ≡ counted_to (commands (bounded_entries_in (lines_of taken))))
+AllAnswered strict held holds old taken new done = LinesAnswered strict held holds old (lines_of taken) new × (done ≡ counted_to (commands (bounded_entries_in (lines_of taken))))
 
 pub answered_last : (strict : Bool) (held between holds : Option (List ℕ)) (old mid new : Seen) (taken : List ℕ) (part : Part) (counts more : Counts) (said : Read (Option Command)) (empty : Bool)
-    → AnsweredSoFar strict held between old mid taken part counts → ((begun : List ℕ) → IsPart part begun → empty ≡ (length begun == 0)) → empty ≡ false
-    → ((begun : List ℕ) → IsPart part begun → said ≡ bounded_line_of (begun ++ []))
+    → AnsweredSoFar strict held between old mid taken part counts → ((begun : List ℕ) → IsPartOfLine part begun → empty ≡ (length begun == 0)) → empty ≡ false
+    → ((begun : List ℕ) → IsPartOfLine part begun → said ≡ bounded_line_of (begun ++ []))
     → LineAnswered strict between holds mid said new → more.done ≡ counted_to (counts.done + (if says_command said then 1 else 0))
     → AllAnswered strict held holds old taken new more.done
 answered_last strict held between holds old mid new taken part counts more said empty so_far tells some reads answered done =
     let line : List ℕ = so_far.begun ++ [] in
     let says : said ≡ bounded_line_of line = reads so_far.begun so_far.kept in
     let all = lines_with_last strict held between old mid taken part counts empty so_far tells some in (
-      subst (λ ls. Answered strict held holds old ls new) (sym all) (answered_with strict held between holds old mid new so_far.passed line said so_far.answered says answered),
+      subst (λ ls. LinesAnswered strict held holds old ls new) (sym all) (answered_with strict held between holds old mid new so_far.passed line said so_far.answered says answered),
       done ∙ counts_on counts.done (if says_command said then 1 else 0) (commands (bounded_entries_in so_far.passed)) (commands (bounded_entries_in (so_far.passed ++ line ∷ []))) so_far.done (commands_with so_far.passed line said says)
           ∙ ap (λ ls. counted_to (commands (bounded_entries_in ls))) (sym all),
     )
 
 pub answered_none : (strict : Bool) (held holds : Option (List ℕ)) (old new : Seen) (taken : List ℕ) (part : Part) (counts : Counts) (empty : Bool)
-    → AnsweredSoFar strict held holds old new taken part counts → ((begun : List ℕ) → IsPart part begun → empty ≡ (length begun == 0)) → empty ≡ true
+    → AnsweredSoFar strict held holds old new taken part counts → ((begun : List ℕ) → IsPartOfLine part begun → empty ≡ (length begun == 0)) → empty ≡ true
     → AllAnswered strict held holds old taken new counts.done
 answered_none strict held holds old new taken part counts empty so_far tells none =
     let all : lines_of taken ≡ so_far.passed = lines_at_end taken so_far.passed so_far.begun so_far.fed ∙ ap (λ ls. so_far.passed ++ ls) (no_last_line so_far.begun (sym (tells so_far.begun so_far.kept) ∙ none)) ∙ append-nil so_far.passed in (
-      subst (λ ls. Answered strict held holds old ls new) (sym all) so_far.answered,
+      subst (λ ls. LinesAnswered strict held holds old ls new) (sym all) so_far.answered,
       so_far.done ∙ ap (λ ls. counted_to (commands (bounded_entries_in ls))) (sym all),
     )
 
@@ -204,7 +204,7 @@ is_answered start strict left leaves held holds old new taken part counts is con
 
 -- the end was read
 pub ran_last : (strict : Bool) (left mid leaves held holds : Option (List ℕ)) (old new : Seen) (taken last : List ℕ) (result : Result ℕ RunFault) → Consumes left mid taken → Consumes mid leaves last → last ≡ [] → IsAtEnd leaves
-    → MatchResult result (AllAnswered strict held holds old taken new) (StopsAt strict held holds old new (lines_of taken)) → RanLines strict left leaves held holds old new result
+    → MatchResult result (AllAnswered strict held holds old taken new) (StopsAtLine strict held holds old new (lines_of taken)) → RanLines strict left leaves held holds old new result
 ran_last strict left mid leaves held holds old new taken last result before now none ended known = at result known
   where
     come : Come left leaves true (lines_of taken)
@@ -215,13 +215,13 @@ ran_last strict left mid leaves held holds old new taken last result before now 
       end = λ _. ended;
     }
 
-    at : (r : Result ℕ RunFault) → MatchResult r (AllAnswered strict held holds old taken new) (StopsAt strict held holds old new (lines_of taken)) → RanLines strict left leaves held holds old new r
+    at : (r : Result ℕ RunFault) → MatchResult r (AllAnswered strict held holds old taken new) (StopsAtLine strict held holds old new (lines_of taken)) → RanLines strict left leaves held holds old new r
     at (Ok done) all = (lines_of taken, come, all.0, all.1)
     at (Err fault) stops = inr (true, lines_of taken, come, stops)
 
 -- a line with its LF ended the run
 pub ran_to : (strict : Bool) (left mid leaves held holds : Option (List ℕ)) (old new : Seen) (taken bytes : List ℕ) (result : Result ℕ RunFault) (fault : RunFault) → result ≡ Err fault → Consumes left mid taken → Consumes mid leaves bytes
-    → StopsAt strict held holds old new (ended_lines (taken ++ bytes)) fault → RanLines strict left leaves held holds old new result
+    → StopsAtLine strict held holds old new (ended_lines (taken ++ bytes)) fault → RanLines strict left leaves held holds old new result
 ran_to strict left mid leaves held holds old new taken bytes result fault is before now stops = subst (RanLines strict left leaves held holds old new) (sym is)
     (inr (false, ended_lines (taken ++ bytes), record { taken = taken ++ bytes; consumed = Consumes-trans left mid leaves taken bytes before now; are = refl; end = not_ended (IsAtEnd leaves) }, stops))
 

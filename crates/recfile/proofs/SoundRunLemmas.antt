@@ -9,7 +9,7 @@ use Rattle.recfile.specs.declared.script.RunFault.{RunFault}
 use Rattle.recfile.specs.declared.script.RunFault.TheVariants.{Script, Refused}
 use Rattle.recfile.specs.declared.script.ScriptFault.TheVariants as script_faults
 use Rattle.recfile.specs.Run.{HasReply, LineHasReply, Session, Ran}
-use Rattle.recfile.specs.Shell.{Answered, LineStops, RanLines, ReadsEnd}
+use Rattle.recfile.specs.Shell.{LinesAnswered, LineStops, RanLines, ReadsEnd}
 use Rattle.recfile.specs.WholeSession.{RanBy, RanAs}
 use Rattle.recfile.specs.declared.manner.Feed.{Feed}
 use Rattle.recfile.specs.declared.manner.Feed.TheVariants as feeds
@@ -40,7 +40,7 @@ module _ (P : Seen → Seen → Type 0) (none : (s : Seen) → P s s) (on : (a b
       let refused = stopped.2.1 in
       on old refused.mid new (over_session old refused.mid (entries_in refused.before) refused.replies refused.ran) (over_line refused.mid new (line_of refused.line) refused.last refused.reply)
 
-  over_answered : (strict : Bool) (held holds : Option (List ℕ)) (old new : Seen) (lines : List (List ℕ)) → Answered strict held holds old lines new → P old new
+  over_answered : (strict : Bool) (held holds : Option (List ℕ)) (old new : Seen) (lines : List (List ℕ)) → LinesAnswered strict held holds old lines new → P old new
   over_answered strict held holds old new lines answered = over_session old new (bounded_entries_in lines) answered.replies answered.ran
 
   over_stop : (strict : Bool) (held holds : Option (List ℕ)) (old new : Seen) (said : Read (Option Command)) (done number : ℕ) (fault : RunFault) → LineStops strict held holds old said new done number fault → P old new

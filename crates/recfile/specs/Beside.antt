@@ -11,7 +11,7 @@ use Rattle.page_journal.specs.declared.disk_state.DiskState.{Ghosts}
 use Rattle.btree_delete.specs.CleanFile.{HasLength}
 use Rattle.recfile.specs.Dumped.{IsOutsideFile}
 use Rattle.recfile.specs.FileFaults.{is_device_answer}
-use Rattle.recfile.specs.Kept.{file_of}
+use Rattle.recfile.specs.Kept.{opening_file}
 use Rattle.recfile.specs.LogOver.{HoldsRecords}
 use Rattle.rec_types.specs.declared.table_state.TableState.{Ghosts as TableGhosts}
 use Rattle.rec_types.specs.declared.table.TableFault.{TableFault}
@@ -42,7 +42,7 @@ LeavesFiles old c = StandsFor (recovered old) c × (c.commits.log ≡ old.commit
 
 -- the file that a store was opened over, with some of the commits that are kept beside it
 abbrev pub LeavesOpening : Opening → Files → Type 0
-LeavesOpening opening c = StandsFor (file_of opening) c × FindsSome opening.logged opening.log opening.commits opening.doubt c
+LeavesOpening opening c = StandsFor (opening_file opening) c × FindsSome opening.logged opening.log opening.commits opening.doubt c
 
 -- or a file that is closed and has these records, in a tree of this order, and the whole log
 abbrev pub LeavesClosed : Opening → ℕ → Contents → Files → Type 0
@@ -74,11 +74,11 @@ IsSettlingFault fault = IsOutsideFile fault ⊎ (fault ≡ TooManyRecords)
 abbrev pub IsUnput : Type 0 → FileFault → Type 0
 IsUnput Over fault = IsSettlingFault fault ⊎ ((fault ≡ BadCommits) × (Over → ⊥))
 
--- and over a sound table
+-- why a sound table doesn't answer, but for room: a fault from outside
 abbrev pub IsTableOutside : TableFault → Type 0
 IsTableOutside fault = (fault ≡ tables.Device) ⊎ (fault ≡ tables.Memory)
 
--- Line only where what is put over it isn't Logged
+-- why a log isn't put over a sound table: Line only where it isn't Logged
 abbrev pub IsOverlayFault : Type 0 → OverlayFault → Type 0
 IsOverlayFault Logged overlaying.Line = Logged → ⊥
 IsOverlayFault Logged (overlaying.Table fault) = IsTableOutside fault ⊎ (fault ≡ tables.NoRoom)

@@ -12,7 +12,7 @@ use Rattle.command_text.specs.Units.{Write}
 use Rattle.record_file.specs.Durable.{overlay}
 use Rattle.record_file.specs.Runs.{Seen}
 use Rattle.recfile.specs.Beside.{IsSettledWith, LeavesOpening}
-use Rattle.recfile.specs.Kept.{file_of}
+use Rattle.recfile.specs.Kept.{opening_file}
 use Rattle.recfile.specs.LogOver.{Finds, head_line}
 use Rattle.recfile.specs.Overlaid.{writes_in_turn}
 use Rattle.recfile.specs.SessionCommits.{MakesCommits, in_doubt}
@@ -28,7 +28,7 @@ logged_file contents limits failures commits = record (opened_file contents limi
 -- a log was begun beside the file that a store was opened over, in which no commit is yet
 pub record IsBegunBeside (opening : Opening) : Type 0 where
   pub logged : opening.logged ≡ true
-  pub commits : opening.commits ≡ (head_line (file_of opening) ∷ []) ∷ []
+  pub commits : opening.commits ≡ (head_line (opening_file opening) ∷ []) ∷ []
   pub doubt : opening.doubt ≡ []
 
 -- a session over a file with these limits, whatever its records, beside which a log was begun
@@ -38,7 +38,7 @@ RunsLogged manner limits left leaves held holds before after unclosed status =
 
 -- where the file isn't opened: it stays what it was, and the log beside it, or that was taken away
 abbrev pub LeavesUnread : Opening → Files → Type 0
-LeavesUnread opening c = LeavesOpening opening c ⊎ (StandsFor (file_of opening) c × (c.commits.log ≡ None))
+LeavesUnread opening c = LeavesOpening opening c ⊎ (StandsFor (opening_file opening) c × (c.commits.log ≡ None))
 
 -- with no log, or with one in which no commit is
 abbrev pub LeavesUnbegun : Files → Files → Type 0
@@ -60,7 +60,7 @@ abbrev pub FindsEachCommit : ℕ → Contents → List (List Write) → List (Li
 FindsEachCommit order contents kept doubted c =
     (all : List (List Write)) × ((all ≡ kept) ⊎ (all ≡ kept ++ doubted)) × Finds order (overlay contents (writes_in_turn all)) c
 
--- A session over a file with these records, in a tree of this order, whose commits are kept before they are answered; then the file was closed and the log taken away, or a fault stopped that. A crash at any moment since the log was begun leaves what some of the commits make, from the first on, or all and the one that is in doubt; at the end it leaves what all make, whatever failed, and after the closing the file has that by itself.
+-- A session over a file with these records, in a tree of this order, whose commits are kept before they are answered; then the file was closed and the log taken away, or a fault stopped that. A crash at any moment since the log was begun leaves what some of the commits make, from the first on, the one in doubt last; at the end it leaves what all make, with that one or without, whatever failed, and after the closing the file has what all make by itself.
 pub record EndsDurably {D : Type 0} (g : Ghosts D) (manner : Manner) (left leaves held holds : Option (List ℕ)) (before after : CallsMade)
     (order : ℕ) (contents : Contents) (limits : Bounds) (failures : ℕ) (commits : List (List (List ℕ))) (unclosed : Option FileFault) (status : ℕ) (disk : D) : Type 0 where
   pub run : RunsFile manner left leaves held holds before after (logged_file contents limits failures commits) unclosed status

@@ -86,7 +86,7 @@ end_cause (Err fault) = Some (stop_of fault)
 -- What calls one after another asked of the table, where none but the last may have been stopped: its counts tell of
 -- the cause and of nothing else, the log of what became of the records and of how often the table was asked, and over a
 -- sound table the opening contents stay, and it is known what stopped the call.
-pub record Asks (old : Seen) (cause : Option Cause) (new : Seen) : Type 0 where
+pub record EndingAsks (old : Seen) (cause : Option Cause) (new : Seen) : Type 0 where
   pub failures : new.failures ≡ counted old.failures (by_device cause)
   pub refusals : new.refusals ≡ counted old.refusals (by_memory cause)
   pub damages : TellsDamage old.damages cause new.damages

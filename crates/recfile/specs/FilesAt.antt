@@ -134,8 +134,8 @@ abbrev pub Creates : {S : Type 0} → StoreGhosts S → ℕ → Result (Unit {0}
 Creates g order made = IsErr made ⊎ MakesAt g order made
 
 -- no file is found at the path and nothing is written, or a text tells of it
-abbrev pub Tells : {S : Type 0} → StoreGhosts S → (Files → Type 0) → ℕ → (Tree → Contents → ℕ → Result (Unit {0}) DumpFault → Type 0) → Option (List ℕ) → Option (List ℕ) → Result (Unit {0}) DumpFault → Type 0
-Tells g At limit Told held holds done =
+abbrev pub TellsOfFile : {S : Type 0} → StoreGhosts S → (Files → Type 0) → ℕ → (Tree → Contents → ℕ → Result (Unit {0}) DumpFault → Type 0) → Option (List ℕ) → Option (List ℕ) → Result (Unit {0}) DumpFault → Type 0
+TellsOfFile g At limit Told held holds done =
     ((fault : FileFault) × (done ≡ Err (File fault)) × (holds ≡ held)) ⊎ ReadsAt g At limit Told held holds done
 
 -- why no copy was made: the file's first check that fails, or a fault from outside; or one of the copy, where the file is whole

@@ -14,7 +14,7 @@ use Rattle.recfile.specs.Dumped.{IsOutsideFile}
 use Rattle.recfile.specs.FileFaults.{by_device}
 use Rattle.recfile.specs.Kept.{ClosesSafely, CountsClosing, LeavesAs}
 use Rattle.recfile.specs.Settling.{SettlesAt}
-use Rattle.recfile.specs.Statuses.{status_of}
+use Rattle.recfile.specs.Statuses.{exit_status_of}
 use Rattle.recfile.specs.declared.file_fault.FileFault.{FileFault}
 
 -- the records that a script leaves of an empty file, which puts them in one transaction
@@ -22,13 +22,13 @@ abbrev pub loaded : List Element → Contents
 loaded records = replay maps.empty (puts records)
 
 -- a closed file without records, of that order
-abbrev pub IsBlank : ℕ → PageFile → Type 0
-IsBlank order file = (tree : Tree) × (version : ℕ) × (tree.order ≡ order) × IsClosed version file.pages file.tail tree maps.empty
+abbrev pub IsBlankFile : ℕ → PageFile → Type 0
+IsBlankFile order file = (tree : Tree) × (version : ℕ) × (tree.order ≡ order) × IsClosed version file.pages file.tail tree maps.empty
 
 -- A file without records was filled with these. A crash at any moment of it leaves the old file, or the one that has them all.
 pub record FillsBlank {D : Type 0} (g : Ghosts D) (old : PageFile) (records : List Element) (disk : D) (unclosed : Option FileFault) : Type 0 where
   pub order : ℕ
-  pub blank : IsBlank order old
+  pub blank : IsBlankFile order old
   pub closes : ClosesSafely g old disk unclosed order (loaded records)
 
 -- The same over a disk that was just opened, and its status.
@@ -37,7 +37,7 @@ pub record FillsDisk {D : Type 0} (g : Ghosts D) (records : List Element) (opene
   pub filled : IsTrue (g.steady opened) → FillsBlank g (recovered (g.began opened)) records disk unclosed
   pub fault : IfSome unclosed IsOutsideFile
   pub failures : CountsClosing (g.failures opened) (is_some unclosed) (by_device unclosed) (g.failures disk)
-  pub status_is : status ≡ status_of false (is_some unclosed) false
+  pub status_is : status ≡ exit_status_of false (is_some unclosed) false
 
 -- and over the disk that was opened at a path
 pub record FillsAt {D : Type 0} (g : Ghosts D) (At : Files → Type 0) (limits : Bounds) (records : List Element) (status : ℕ) : Type 0 where

@@ -21,8 +21,8 @@ use Rattle.recfile.specs.declared.file_fault.FileFault.{FileFault}
 use Rattle.recfile.specs.declared.file_fault.FileFault.TheVariants.{BadJournal}
 
 -- the file that a store was opened over
-abbrev pub file_of : Opening → PageFile
-file_of opening = record { pages = opening.pages; tail = opening.tail }
+abbrev pub opening_file : Opening → PageFile
+opening_file opening = record { pages = opening.pages; tail = opening.tail }
 
 -- the file is closed and has these records, in a tree of this order
 abbrev pub HasRecords : ℕ → Contents → PageFile → Type 0
@@ -41,21 +41,21 @@ abbrev pub LeavesAs : {D : Type 0} → Ghosts D → Files → D → Type 0
 LeavesAs g old disk = (c : Files) → g.left_since disk 0 c → StandsAs old c
 
 -- the file is closed, has these records in a tree of this order, and the device keeps it with no side file
-pub record IsKept {D : Type 0} (g : Ghosts D) (order : ℕ) (records : Contents) (disk : D) : Type 0 where
+pub record IsKeptWith {D : Type 0} (g : Ghosts D) (order : ℕ) (records : Contents) (disk : D) : Type 0 where
   pub has : HasRecords order records (g.seen disk).main
   pub settled : IsSettled g (g.seen disk).main disk
 
 -- The file is closed with these records, in a tree of this order, where no fault stopped that. A crash at any moment leaves the old file or that one.
 pub record ClosesSafely {D : Type 0} (g : Ghosts D) (old : PageFile) (disk : D) (unclosed : Option FileFault) (order : ℕ) (records : Contents) : Type 0 where
   pub any_moment : LeavesEither g old order records disk
-  pub kept : unclosed ≡ None → IsKept g order records disk
+  pub kept : unclosed ≡ None → IsKeptWith g order records disk
 
 -- how many calls a store has refused by itself
-abbrev pub refusals_of : Guard → ℕ
-refusals_of Unguarded = 0
-refusals_of (Unsealed refusals) = refusals
-refusals_of (Sealed kept refusals) = refusals
-refusals_of (Stopped refusals) = refusals
+abbrev pub refused_calls : Guard → ℕ
+refused_calls Unguarded = 0
+refused_calls (Unsealed refusals) = refusals
+refused_calls (Sealed kept refusals) = refusals
+refused_calls (Stopped refusals) = refusals
 
 -- old pages are kept aside
 abbrev pub is_sealed : Guard → Bool

@@ -8,7 +8,7 @@ pub record Part : Type 0 where
   pub long : Bool
 
 -- A line has begun with these bytes: they are kept while it may be so long, and then only that it is longer.
-pub record IsPart (part : Part) (begun : List ℕ) : Type 0 where
+pub record IsPartOfLine (part : Part) (begun : List ℕ) : Type 0 where
   pub kept : part.long ≡ false → part.bytes ≡ begun
   pub fits : part.long ≡ false → length begun ≤ longest_line
   pub longer : part.long ≡ true → longest_line < length begun

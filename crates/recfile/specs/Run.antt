@@ -98,8 +98,8 @@ LineHasReply old (Ok (Some c)) answer new = HasReply old (Ok c) answer new
 LineHasReply old (Err fault) answer new = HasReply old (Err fault) answer new
 
 -- the text of a reply, where it could be made, and whether the reply is a refusal
-abbrev pub Told : {E : Type 0} → Reply → Result Bool E → List ℕ → Type 0
-Told answer made text = IfOk made (λ refused. (text ≡ text_of answer) × (refused ≡ is_refusal answer))
+abbrev pub ToldReply : {E : Type 0} → Reply → Result Bool E → List ℕ → Type 0
+ToldReply answer made text = IfOk made (λ refused. (text ≡ text_of answer) × (refused ≡ is_refusal answer))
 
 -- what a table was made of is the same
 abbrev pub SameOrigin : {T : Type 0} → Ghosts T → T → T → Type 0
@@ -133,12 +133,12 @@ TellsWrites t old es answer new =
 -- Over a file of which what stays true is true, a command has a reply, which is told. Of what the table was made of nothing
 -- changes but what may.
 pub record CommandTold {T E : Type 0} (t : Ghosts T) (moves : T → T → Type 0) (old : OpenFile T) (entry : Read Command) (made : Result Bool E) (text : List ℕ) (new : OpenFile T) : Type 0 where
-  pub told : (logged : Bool) → IsKeptSeen (seen_as logged t old) → IsKeptSeen (seen_as logged t new) → (answer : Reply) × HasReply (seen_as logged t old) entry answer (seen_as logged t new) × Told answer made text
+  pub told : (logged : Bool) → IsKeptSeen (seen_as logged t old) → IsKeptSeen (seen_as logged t new) → (answer : Reply) × HasReply (seen_as logged t old) entry answer (seen_as logged t new) × ToldReply answer made text
   pub moves_so : moves old.table new.table
 
 -- the same of any reply, where commits are kept before they are answered, or aren't
 pub record CommandRan {T E : Type 0} (t : Ghosts T) (logged : Bool) (moves : T → T → Type 0) (old : OpenFile T) (entry : Read Command) (made : Result Bool E) (text : List ℕ) (new : OpenFile T) : Type 0 where
-  pub told : IsKeptSeen (seen_as logged t old) → IsKeptSeen (seen_as logged t new) → (answer : Reply) × HasReply (seen_as logged t old) entry answer (seen_as logged t new) × Told answer made text
+  pub told : IsKeptSeen (seen_as logged t old) → IsKeptSeen (seen_as logged t new) → (answer : Reply) × HasReply (seen_as logged t old) entry answer (seen_as logged t new) × ToldReply answer made text
   pub moves_so : moves old.table new.table
 
 -- What a line says has a reply, which is told; a line that says nothing has none.

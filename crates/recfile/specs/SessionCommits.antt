@@ -9,15 +9,17 @@ use Rattle.record_file.specs.Steps.{tx_refusal}
 use Rattle.recfile.specs.Overlaid.{SayWrites, writes_in_turn}
 use Rattle.recfile.specs.Run.{SaysWrites}
 
--- A text says what a commit had to keep that wasn't answered as accepted: a run of calls led to a file at which the commit of a transaction would be accepted, and that writes this.
-pub record IsInDoubt (old : Seen) (text : List ℕ) (es : List Write) : Type 0 where
+-- What is in doubt is what a commit had to keep: on the way from one to the other calls led to a file at which the commit of a transaction would be accepted, and that writes this.
+pub record IsInDoubt (old new : Seen) (es : List Write) : Type 0 where
   pub mid : Seen
-  pub events : List Event
-  pub ran : Run (undoubted old) events (undoubted mid)
+  pub before : List Event
+  pub led : Run (undoubted old) before (undoubted mid)
   pub tx : ℕ
   pub accepted : tx_refusal mid.file tx None ≡ None
   pub written : es ≡ writes (own tx mid.file.history)
-  pub says : SaysWrites es text
+  pub later : List Event
+  pub leads : Run (undoubted mid) later (undoubted new)
+  pub says : SaysWrites es new.doubt
 
 -- A run of calls leads from one to the other; what each of its accepted commits has to keep is kept behind what was, as a unit that says its writes; those without writes keep nothing. The commit in doubt is the one that was, or one of this run.
 pub record MakesCommits (old new : Seen) : Type 0 where
@@ -29,7 +31,7 @@ pub record MakesCommits (old new : Seen) : Type 0 where
   pub ran : CommitsKept (undoubted old) events (undoubted new) (writes_in_turn kept)
   pub sound : new.sound ≡ old.sound
   pub logged : new.logged ≡ old.logged
-  pub doubted : (new.doubt ≡ old.doubt) ⊎ ((es : List Write) × IsInDoubt old new.doubt es)
+  pub doubted : (new.doubt ≡ old.doubt) ⊎ ((es : List Write) × IsInDoubt old new es)
 
 -- the writes of the commit that came to be in doubt, if one did
 abbrev pub in_doubt : {A : Type 0} {P : List Write → Type 0} → A ⊎ ((es : List Write) × P es) → List (List Write)

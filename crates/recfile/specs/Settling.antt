@@ -3,8 +3,9 @@ use Rattle.std.specs.Prelude.{◌≡◌, ◌≢◌, ◌⊎◌, ℕ, None, Result
 use Rattle.std.specs.Result.{is_err}
 use Rattle.rec_types.specs.Contents.{Contents}
 use Rattle.rec_types.specs.LimitBounds.{most_records}
+use Rattle.rec_types.specs.Table.{counted}
 use Rattle.page_journal.specs.Files.{Files, Belongs, recovered}
-use Rattle.page_journal.specs.Crash.{BeginsAgain, IsAtRest, IsSettled}
+use Rattle.page_journal.specs.Crash.{BeginsAgain, IsAtRest, IsSettled, StandsAs}
 use Rattle.page_journal.specs.Logging.{HasNoLog}
 use Rattle.page_journal.specs.declared.disk_state.DiskState.{Ghosts}
 use Rattle.recfile.specs.Beside.{IsSettledWith, IsSettlingFault, IsUnput, LeavesFiles}
@@ -39,7 +40,7 @@ IsUnsettled files fault = IsOutsideDisk files fault ⊎ (IsSome files.commits.lo
 
 -- A disk that was just opened was put right, or a fault stopped that. Where an opening finds records in its files, it finds
 -- them in what any crash of this leaves, and at the end the file has them by itself; nothing but a fault from outside, or
--- too many records, stops that. Where it finds none, it isn't put right.
+-- too many records, stops that. Where it finds none, the files stay what they were for an opening.
 pub record PutsRight {D : Type 0} (g : Ghosts D) (old : D) (answer : Result (Unit {0}) FileFault) (new : D) : Type 0 where
   pub kept : IsTrue (g.steady old) → (order : ℕ) → (records : Contents) → Finds order records (g.began old) → KeepsFinding g order records new
   pub settled : IsTrue (g.steady old) → (order : ℕ) → (records : Contents) → Finds order records (g.began old) → OnOk answer (IsSettledWith g order records new)
@@ -49,9 +50,13 @@ pub record PutsRight {D : Type 0} (g : Ghosts D) (old : D) (answer : Result (Uni
   -- without a log the file isn't looked into
   pub alone : IsTrue (g.steady old) → (g.began old).commits.log ≡ None → OnOk answer (IsSettled g (recovered (g.began old)) new × KeepsAll g (g.began old) new)
   pub bad_commits : IsTrue (g.steady old) → answer ≡ Err BadCommits → KeepsAll g (g.began old) new
+  -- where it finds none, the files stand for what they stood for, and the log stays
+  pub unfound : IsTrue (g.steady old) → (FindsAny (g.began old) → ⊥) → (c : Files) → g.left_since new 0 c → StandsAs (g.began old) c × (c.commits.log ≡ (g.began old).commits.log)
   pub fault : IsTrue (g.steady old) → IfErr answer (IsUnsettled (g.began old))
   pub bare : IsTrue (g.steady old) → OnOk answer (IsSettled g (g.seen new).main new × HasNoLog g new)
   pub failures : CountsClosing (g.failures old) (is_err answer) (is_device_answer answer) (g.failures new)
+  -- without a log no closing is taken back
+  pub once : IsTrue (g.steady old) → (g.began old).commits.log ≡ None → g.failures new ≡ counted (g.failures old) (is_device_answer answer)
   pub steady : OnOk answer (g.steady new ≡ g.steady old)
 
 -- The disk that was opened at a path was put right, and counts as one that was just opened.

@@ -13,7 +13,7 @@ use Rattle.recfile.specs.declared.script.ScriptFault.TheVariants as faults
 use Rattle.recfile.specs.declared.script.RunFault.{RunFault}
 use Rattle.recfile.specs.declared.script.RunFault.TheVariants.{Script, Refused}
 use Rattle.recfile.specs.declared.shell.Counts.{Counts}
-use Rattle.recfile.specs.PartLine.{IsPart, Part}
+use Rattle.recfile.specs.PartLine.{IsPartOfLine, Part}
 use Rattle.recfile.specs.Run.{AcceptedIf, IsUnsent, LineHasReply, Session, commands}
 
 -- the greatest number of 32 bits
@@ -36,7 +36,7 @@ pub record Come (left leaves : Option (List ℕ)) (ended : Bool) (lines : List (
   pub end : IsTrue ended → IsAtEnd leaves
 
 -- These lines were run, and the replies to all of them are written; none is a refusal where that would end the run.
-pub record Answered (strict : Bool) (held holds : Option (List ℕ)) (old : Seen) (lines : List (List ℕ)) (new : Seen) : Type 0 where
+pub record LinesAnswered (strict : Bool) (held holds : Option (List ℕ)) (old : Seen) (lines : List (List ℕ)) (new : Seen) : Type 0 where
   pub replies : List Reply
   pub ran : Session old (bounded_entries_in lines) replies new
   pub written : Appends held holds (flat_map text_of replies)
@@ -54,7 +54,7 @@ pub record IsAnswered (start : Start) (leaves holds : Option (List ℕ)) : Type 
   pub lines : List (List ℕ)
   pub come : Come start.left leaves false lines
   pub new : Seen
-  pub answered : Answered start.strict start.held holds start.old lines new
+  pub answered : LinesAnswered start.strict start.held holds start.old lines new
 
 -- Whatever bytes follow these, they are these lines, each with its LF, and the beginning of one.
 pub record Fed (taken : List ℕ) (passed : List (List ℕ)) (begun : List ℕ) : Type 0 where
@@ -67,8 +67,8 @@ pub record AnsweredSoFar (strict : Bool) (held holds : Option (List ℕ)) (old n
   pub passed : List (List ℕ)
   pub begun : List ℕ
   pub fed : Fed taken passed begun
-  pub kept : IsPart part begun
-  pub answered : Answered strict held holds old passed new
+  pub kept : IsPartOfLine part begun
+  pub answered : LinesAnswered strict held holds old passed new
   pub done : counts.done ≡ counted_to (commands (bounded_entries_in passed))
   pub number : counts.lines ≡ counted_to (length passed)
 
@@ -89,23 +89,23 @@ LineStops strict held holds old said new done number (Refused line) =
 
 -- The lines before a line are answered, that line ended the run, and no line after it was run. Lines are counted from 1,
 -- with those that say nothing.
-pub record StopsAt (strict : Bool) (held holds : Option (List ℕ)) (old new : Seen) (lines : List (List ℕ)) (fault : RunFault) : Type 0 where
+pub record StopsAtLine (strict : Bool) (held holds : Option (List ℕ)) (old new : Seen) (lines : List (List ℕ)) (fault : RunFault) : Type 0 where
   pub before : List (List ℕ)
   pub line : List ℕ
   pub after : List (List ℕ)
   pub split : lines ≡ before ++ line ∷ after
   pub mid : Seen
   pub between : Option (List ℕ)
-  pub answered : Answered strict held between old before mid
+  pub answered : LinesAnswered strict held between old before mid
   pub stops : LineStops strict between holds mid (bounded_line_of line) new (counted_to (commands (bounded_entries_in (before ++ line ∷ [])))) (counted_to (length before + 1)) fault
 
 -- Why no more was read, by which each line that had its LF was answered: a read failed; there were too many; or there
 -- was no memory to begin with, and nothing was read.
 abbrev pub ReadsEnd : Bool → Option (List ℕ) → Option (List ℕ) → Option (List ℕ) → Option (List ℕ) → Seen → Seen → RunFault → Type 0
 ReadsEnd strict left leaves held holds old new (Script faults.ReadFault) =
-    (lines : List (List ℕ)) × Come left leaves false lines × Answered strict held holds old lines new
+    (lines : List (List ℕ)) × Come left leaves false lines × LinesAnswered strict held holds old lines new
 ReadsEnd strict left leaves held holds old new (Script faults.ScriptTooLong) =
-    (lines : List (List ℕ)) × (come : Come left leaves false lines) × Answered strict held holds old lines new × (most_reads ≤ length come.taken)
+    (lines : List (List ℕ)) × (come : Come left leaves false lines) × LinesAnswered strict held holds old lines new × (most_reads ≤ length come.taken)
 ReadsEnd strict left leaves held holds old new (Script (faults.Memory done)) =
     (done ≡ 0) × (leaves ≡ left) × (holds ≡ held) × (new ≡ old)
 ReadsEnd strict left leaves held holds old new (Script (faults.WriteFault done)) = ⊥
@@ -115,7 +115,7 @@ ReadsEnd strict left leaves held holds old new (Refused line) = ⊥
 -- the run.
 abbrev pub RanLines : Bool → Option (List ℕ) → Option (List ℕ) → Option (List ℕ) → Option (List ℕ) → Seen → Seen → Result ℕ RunFault → Type 0
 RanLines strict left leaves held holds old new (Ok done) =
-    (lines : List (List ℕ)) × Come left leaves true lines × Answered strict held holds old lines new × (done ≡ counted_to (commands (bounded_entries_in lines)))
+    (lines : List (List ℕ)) × Come left leaves true lines × LinesAnswered strict held holds old lines new × (done ≡ counted_to (commands (bounded_entries_in lines)))
 RanLines strict left leaves held holds old new (Err fault) =
     ReadsEnd strict left leaves held holds old new fault
-    ⊎ ((ended : Bool) × (lines : List (List ℕ)) × Come left leaves ended lines × StopsAt strict held holds old new lines fault)
+    ⊎ ((ended : Bool) × (lines : List (List ℕ)) × Come left leaves ended lines × StopsAtLine strict held holds old new lines fault)

@@ -33,9 +33,9 @@ MakesIn g old order (Ok done) new = WritesNew g old order None new
 MakesIn g old order (Err fault) new = StaysStore g old new ⊎ WritesNew g old order (Some fault) new
 
 -- whether the store is asked for its shape: not where a tree can't have the order
-abbrev pub asks_shape : Result (Unit {0}) FileFault → Bool
-asks_shape (Err BadOrder) = false
-asks_shape answer = true
+abbrev pub wants_shape : Result (Unit {0}) FileFault → Bool
+wants_shape (Err BadOrder) = false
+wants_shape answer = true
 
 -- A table of this order with these records was closed. Where no fault stopped that, the store is a closed file with them.
 pub record ClosesIn {S : Type 0} (g : Ghosts S) (old new : S) (unclosed : Option FileFault) (order : ℕ) (records : Contents) : Type 0 where

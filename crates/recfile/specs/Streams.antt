@@ -19,11 +19,11 @@ IsBlankFor blank_name blank_parts name parts = (blank_name ≡ name) × (blank_p
 abbrev pub no_call : CallsMade
 no_call = record { reads = 0; read_failed = false; write_failed = false }
 
-abbrev pub is_read : ScriptFault → Bool
-is_read faults.ReadFault = true
-is_read faults.ScriptTooLong = false
-is_read (faults.WriteFault done) = false
-is_read (faults.Memory done) = false
+abbrev pub is_read_fault : ScriptFault → Bool
+is_read_fault faults.ReadFault = true
+is_read_fault faults.ScriptTooLong = false
+is_read_fault (faults.WriteFault done) = false
+is_read_fault (faults.Memory done) = false
 
 abbrev pub is_write : ScriptFault → Bool
 is_write faults.ReadFault = false
@@ -34,7 +34,7 @@ is_write (faults.Memory done) = false
 -- whether the answer is ReadFault
 abbrev pub read_fault : {A : Type 0} → Result A ScriptFault → Bool
 read_fault (Ok x) = false
-read_fault (Err fault) = is_read fault
+read_fault (Err fault) = is_read_fault fault
 
 -- whether it is WriteFault
 abbrev pub write_fault : {A : Type 0} → Result A ScriptFault → Bool
@@ -43,7 +43,7 @@ write_fault (Err fault) = is_write fault
 
 abbrev pub run_read_fault : {A : Type 0} → Result A RunFault → Bool
 run_read_fault (Ok x) = false
-run_read_fault (Err (Script fault)) = is_read fault
+run_read_fault (Err (Script fault)) = is_read_fault fault
 run_read_fault (Err (Refused line)) = false
 
 abbrev pub run_write_fault : {A : Type 0} → Result A RunFault → Bool

@@ -15,7 +15,7 @@ use Rattle.page_rescue.specs.declared.rescue.Rescued.{Rescued}
 use Rattle.record_texts.specs.declared.form.Form.{Form}
 use Rattle.recfile.specs.Dumped.{IsOfListing, IsPartWritten, text_in}
 use Rattle.recfile.specs.Filling.{CanFill, FillsAt, LooksAt}
-use Rattle.recfile.specs.FilesAt.{Copies, Creates, IsFoundAt, RunsAt, Tells, TellsRecords, TellsTree}
+use Rattle.recfile.specs.FilesAt.{Copies, Creates, IsFoundAt, RunsAt, TellsOfFile, TellsRecords, TellsTree}
 use Rattle.recfile.specs.Streams.{CallsMade}
 use Rattle.recfile.specs.TreeLine.{counts_line}
 use Rattle.recfile.specs.Whole.{empty_file}
@@ -31,8 +31,8 @@ use Rattle.recfile.specs.declared.words.Task.{Task}
 use Rattle.recfile.specs.declared.words.Task.TheVariants as tasks
 
 -- the line of a check, and the text of a dump
-abbrev pub IsLine : List ℕ → Type 0
-IsLine text = (counts : TreeCounts) × (text ≡ counts_line counts)
+abbrev pub IsTreeLine : List ℕ → Type 0
+IsTreeLine text = (counts : TreeCounts) × (text ≡ counts_line counts)
 
 abbrev pub IsDump : Option Form → List ℕ → Type 0
 IsDump form text = (records : List (List ℕ × List ℕ)) × (text ≡ text_in form records)
@@ -62,7 +62,7 @@ text_status (Err Write) = 3
 -- a text about the file at a path was asked for, and this is the status
 abbrev pub WritesText : {S : Type 0} → (Option (List ℕ) → Option (List ℕ) → Result (Unit {0}) DumpFault → Type 0) → StoreGhosts S → (Files → Type 0) → (Tree → Contents → ℕ → Result (Unit {0}) DumpFault → Type 0) → Option (List ℕ) → Option (List ℕ) → ℕ → Type 0
 WritesText Written g At Told held holds status =
-    (done : Result (Unit {0}) DumpFault) × Written held holds done × Tells g At most_records Told held holds done × (status ≡ text_status done)
+    (done : Result (Unit {0}) DumpFault) × Written held holds done × TellsOfFile g At most_records Told held holds done × (status ≡ text_status done)
 
 -- What was saved of the file at a path: no file is found there and nothing is written, or what is saved of its pages is.
 -- Nothing is written to the file.
@@ -105,28 +105,28 @@ told_status (Err fault) = text_status (Err fault)
 -- read at the path that was asked for, or there is none, and nothing is read and written then; a session has the limits
 -- and the manner that were asked for, and closes its file so that no crash loses it, nor what it committed where it is durable; what a check and a dump write is a
 -- line and a script; a copy has the pages of the file.
-abbrev pub Does : {D S : Type 0} → DiskGhosts D → StoreGhosts S → (List ℕ → Files → Type 0) → Task → Option (List ℕ) → Option (List ℕ) → Option (List ℕ) → Option (List ℕ) → CallsMade → CallsMade → ℕ → Type 0
-Does disks stores at (tasks.Create order path) left leaves held holds before after status =
+abbrev pub DoesTask : {D S : Type 0} → DiskGhosts D → StoreGhosts S → (List ℕ → Files → Type 0) → Task → Option (List ℕ) → Option (List ℕ) → Option (List ℕ) → Option (List ℕ) → CallsMade → CallsMade → ℕ → Type 0
+DoesTask disks stores at (tasks.Create order path) left leaves held holds before after status =
     (leaves ≡ left) × (holds ≡ held)
     × ((made : Result (Unit {0}) FileFault) × Creates stores order made × (status ≡ (if is_err made then 1 else 0)))
-Does disks stores at (tasks.Run limits manner durable path) left leaves held holds before after status = RunsOver disks (at path.now) durable manner limits left leaves held holds before after status
-Does disks stores at (tasks.Check path) left leaves held holds before after status =
-    (leaves ≡ left) × WritesText (Writes IsLine) stores (at path.now) (TellsTree held holds) held holds status
-Does disks stores at (tasks.Copy path to) left leaves held holds before after status =
+DoesTask disks stores at (tasks.Run limits manner durable path) left leaves held holds before after status = RunsOver disks (at path.now) durable manner limits left leaves held holds before after status
+DoesTask disks stores at (tasks.Check path) left leaves held holds before after status =
+    (leaves ≡ left) × WritesText (Writes IsTreeLine) stores (at path.now) (TellsTree held holds) held holds status
+DoesTask disks stores at (tasks.Copy path to) left leaves held holds before after status =
     (leaves ≡ left) × (holds ≡ held)
     × ((done : Result (Unit {0}) CopyingFault) × Copies stores (at path.now) most_records done × (status ≡ (if is_err done then 1 else 0)))
-Does disks stores at (tasks.Dump form path) left leaves held holds before after status =
+DoesTask disks stores at (tasks.Dump form path) left leaves held holds before after status =
     (leaves ≡ left) × WritesText (WritesListed (IsDump form)) stores (at path.now) (TellsRecords form held holds) held holds status
-Does disks stores at (tasks.Rescue path) left leaves held holds before after status =
+DoesTask disks stores at (tasks.Rescue path) left leaves held holds before after status =
     (leaves ≡ left)
     × ((done : Result (Unit {0}) DumpFault) × Writes (IsDump None) held holds done × Rescues stores (at path.now) held holds done × (status ≡ text_status done))
-Does disks stores at (tasks.Load separator limits path) left leaves held holds before after status = (holds ≡ held) × ((status ≡ 3) ⊎ LoadsAt disks (at path.now) limits before after status)
-Does disks stores at (tasks.Tell telling path) left leaves held holds before after status = (leaves ≡ left) × ((told : Result Bool DumpFault) × (status ≡ told_status told))
-Does disks stores at (tasks.Memory limits manner) left leaves held holds before after status =
+DoesTask disks stores at (tasks.Load separator limits path) left leaves held holds before after status = (holds ≡ held) × ((status ≡ 3) ⊎ LoadsAt disks (at path.now) limits before after status)
+DoesTask disks stores at (tasks.Tell telling path) left leaves held holds before after status = (leaves ≡ left) × ((told : Result Bool DumpFault) × (status ≡ told_status told))
+DoesTask disks stores at (tasks.Memory limits manner) left leaves held holds before after status =
     RunsFile manner left leaves held holds before after (empty_file limits) None status
 
 -- The words asked for a task, and it was done; or they asked for nothing: nothing is read, and the status is that of help
 -- that was asked for, or of a fault of the words.
 abbrev pub DoesAny : {D S : Type 0} → DiskGhosts D → StoreGhosts S → (List ℕ → Files → Type 0) → Option (List ℕ) → Option (List ℕ) → Option (List ℕ) → Option (List ℕ) → CallsMade → CallsMade → ℕ → Type 0
 DoesAny disks stores at left leaves held holds before after status =
-    ((task : Task) × Does disks stores at task left leaves held holds before after status) ⊎ ((leaves ≡ left) × ((status ≡ 0) ⊎ (status ≡ 2)))
+    ((task : Task) × DoesTask disks stores at task left leaves held holds before after status) ⊎ ((leaves ≡ left) × ((status ≡ 0) ⊎ (status ≡ 2)))

@@ -9,11 +9,11 @@ use Rattle.rec_types.specs.Table.{no_damage}
 use Rattle.btree_delete.specs.TableView.{TableView}
 use Rattle.record_file.specs.Abstract.{new_file, open_of}
 use Rattle.record_file.specs.Runs.{Seen}
-use Rattle.recfile.specs.Ending.{Asks, EndsAll, StopsEnding, end_cause, rest_of}
+use Rattle.recfile.specs.Ending.{EndingAsks, EndsAll, StopsEnding, end_cause, rest_of}
 use Rattle.recfile.specs.Dumped.{IsOutsideFile}
 use Rattle.recfile.specs.Run.{Ran}
 use Rattle.recfile.specs.Shell.{RanLines}
-use Rattle.recfile.specs.Statuses.{status_of}
+use Rattle.recfile.specs.Statuses.{exit_status_of}
 use Rattle.recfile.specs.Streams.{CallsMade, TellsFailed, run_read_fault, run_write_fault}
 use Rattle.recfile.specs.declared.endings.EndFault.{EndFault}
 use Rattle.recfile.specs.declared.file_fault.FileFault.{FileFault}
@@ -38,7 +38,7 @@ pub record IsSession (manner : Manner) (left leaves held holds : Option (List �
   pub script : RanAs manner left leaves held holds old mid answer
   pub ending : MatchResult ended (λ count. EndsAll mid.file count new.file)
       (λ fault. StopsEnding mid.file fault new.file)
-  pub asks : Asks mid (end_cause ended) new
+  pub asks : EndingAsks mid (end_cause ended) new
   pub commits : new.commits ≡ mid.commits
   pub doubt : new.doubt ≡ mid.doubt
   pub records : IsTrue mid.sound → OnOk ended
@@ -73,7 +73,7 @@ pub record RunsFile (manner : Manner) (left leaves held holds : Option (List ℕ
   pub mid : Seen
   pub new : Seen
   pub session : IsSession manner left leaves held holds old mid answer ended new
-  pub status_is : status ≡ status_of (is_err ended) (is_some unclosed) (is_err answer)
+  pub status_is : status ≡ exit_status_of (is_err ended) (is_some unclosed) (is_err answer)
   pub fault : IfSome unclosed IsOutsideFile
   pub untried : OnErr ended (unclosed ≡ None)
   pub failed : TellsFailed before (run_read_fault answer) (run_write_fault answer) after

@@ -23,8 +23,8 @@ IsRead bits None default n = n ≡ default
 IsRead bits (Some text) default n =
     IsNumeral 10 (without_leading_plus text) → digits_value 10 (without_leading_plus text) < 2 ^ bits → n ≡ digits_value 10 (without_leading_plus text)
 
-abbrev pub AreLimits : List Row → Bounds → Type 0
-AreLimits rows limits =
+abbrev pub AreAskedLimits : List Row → Bounds → Type 0
+AreAskedLimits rows limits =
     IsRead 32 (one_of (codes "records") rows) most_records limits.records
     × IsRead 32 (one_of (codes "log") rows) most_log_records limits.log_records
     × IsRead 32 (one_of (codes "begins") rows) most_begins limits.begins
@@ -60,8 +60,8 @@ IsDrawing rows DrawnLines = IsFlag rows (codes "svg") false
 abbrev pub word_in : List ℕ → List Row → List ℕ
 word_in name rows = unwrap_or (first_of name rows) []
 
-abbrev pub file_of : List Row → List ℕ
-file_of rows = word_in (codes "FILE") rows
+abbrev pub path_in : List Row → List ℕ
+path_in rows = word_in (codes "FILE") rows
 
 -- none of the names of commands that have a file, or may have one
 abbrev pub IsOther : List ℕ → Type 0
@@ -78,7 +78,7 @@ IsTelling name rows (Tree drawing) = (name ≡ codes "show") × IsDrawing rows d
 abbrev pub IsShell : List Row → Task → Type 0
 IsShell rows (tasks.Create order path) = ⊥
 IsShell rows (tasks.Run limits manner durable path) =
-    AreLimits rows limits × IsManner rows Lines manner × IsFlag rows (codes "durable") durable × (first_of (codes "FILE") rows ≡ Some path.now)
+    AreAskedLimits rows limits × IsManner rows Lines manner × IsFlag rows (codes "durable") durable × (first_of (codes "FILE") rows ≡ Some path.now)
 IsShell rows (tasks.Check path) = ⊥
 IsShell rows (tasks.Copy path to) = ⊥
 IsShell rows (tasks.Dump form path) = ⊥
@@ -86,25 +86,25 @@ IsShell rows (tasks.Rescue path) = ⊥
 IsShell rows (tasks.Load separator limits path) = ⊥
 IsShell rows (tasks.Tell telling path) = ⊥
 IsShell rows (tasks.Memory limits manner) =
-    AreLimits rows limits × IsManner rows Lines manner × (first_of (codes "FILE") rows ≡ None)
+    AreAskedLimits rows limits × IsManner rows Lines manner × (first_of (codes "FILE") rows ≡ None)
 
 -- the task of a command of that name, in which this was found: a session runs a script, but that of a shell, which runs
 -- lines
 abbrev pub IsNamed : List ℕ → List Row → Task → Type 0
 IsNamed name rows (tasks.Create order path) =
-    (name ≡ codes "create") × IsRead 16 (one_of (codes "order") rows) 16 order × (path.now ≡ file_of rows)
+    (name ≡ codes "create") × IsRead 16 (one_of (codes "order") rows) 16 order × (path.now ≡ path_in rows)
 IsNamed name rows (tasks.Run limits manner durable path) =
-    ((name ≡ codes "run") × AreLimits rows limits × IsManner rows Script manner × IsFlag rows (codes "durable") durable × (path.now ≡ file_of rows))
+    ((name ≡ codes "run") × AreAskedLimits rows limits × IsManner rows Script manner × IsFlag rows (codes "durable") durable × (path.now ≡ path_in rows))
     ⊎ ((name ≡ codes "shell") × IsShell rows (tasks.Run limits manner durable path))
-IsNamed name rows (tasks.Check path) = (name ≡ codes "check") × (path.now ≡ file_of rows)
-IsNamed name rows (tasks.Copy path to) = (name ≡ codes "copy") × (path.now ≡ file_of rows) × (to.now ≡ word_in (codes "TO") rows)
-IsNamed name rows (tasks.Dump form path) = (name ≡ codes "dump") × IsForm rows form × (path.now ≡ file_of rows)
-IsNamed name rows (tasks.Rescue path) = (name ≡ codes "rescue") × (path.now ≡ file_of rows)
+IsNamed name rows (tasks.Check path) = (name ≡ codes "check") × (path.now ≡ path_in rows)
+IsNamed name rows (tasks.Copy path to) = (name ≡ codes "copy") × (path.now ≡ path_in rows) × (to.now ≡ word_in (codes "TO") rows)
+IsNamed name rows (tasks.Dump form path) = (name ≡ codes "dump") × IsForm rows form × (path.now ≡ path_in rows)
+IsNamed name rows (tasks.Rescue path) = (name ≡ codes "rescue") × (path.now ≡ path_in rows)
 IsNamed name rows (tasks.Load separator limits path) =
-    (name ≡ codes "load") × IsSeparator rows separator × AreLimits rows limits × (path.now ≡ file_of rows)
-IsNamed name rows (tasks.Tell telling path) = IsTelling name rows telling × (path.now ≡ file_of rows)
+    (name ≡ codes "load") × IsSeparator rows separator × AreAskedLimits rows limits × (path.now ≡ path_in rows)
+IsNamed name rows (tasks.Tell telling path) = IsTelling name rows telling × (path.now ≡ path_in rows)
 IsNamed name rows (tasks.Memory limits manner) =
-    (IsOther name × AreLimits rows limits × IsManner rows Script manner)
+    (IsOther name × AreAskedLimits rows limits × IsManner rows Script manner)
     ⊎ ((name ≡ codes "shell") × IsShell rows (tasks.Memory limits manner))
 
 -- with no command it is a script over an empty file of the greatest limits, and no refusal ends it

@@ -3,7 +3,7 @@ ghost use Rattle.std.specs.String.{string_bytes};
 ghost use Rattle.command_text.specs.declared.command.Command.TheVariants as commands;
 ghost use Rattle.command_text.specs.declared.reply.Reply.{Reply};
 ghost use Rattle.command_text.specs.declared.reply.Reply.TheVariants as replies;
-ghost use Rattle.recfile.specs.Run.{CommandRan, CommandTold, HasReply, LineTold, SameOrigin, Told, commit_reply, says_command};
+ghost use Rattle.recfile.specs.Run.{CommandRan, CommandTold, HasReply, LineTold, SameOrigin, ToldReply, commit_reply, says_command};
 ghost use Rattle.record_file.specs.Runs.{seen_as};
 
 use crate::commit_keeper::CommitKeeper;
@@ -14,7 +14,7 @@ use record_file::{KeepFault, KeeperFault, RecordFile};
 // Puts the text of a reply in the place of what a text has, and answers whether it is a refusal. Fault: Memory.
 #[inline(never)]
 fn tell(text: &mut String, reply: &Reply) -> Result<bool, Memory>
-    ensures { Told reply.now result (string_bytes text.new) }
+    ensures { ToldReply reply.now result (string_bytes text.new) }
 {
     text.clear();
     append_reply(text, reply)?;
@@ -216,7 +216,7 @@ pub fn command_count(said: &Result<Option<Command>, LineFault>) -> u32
 
 // Tells why a line says no command. Fault: Memory.
 fn bad(text: &mut String, fault: LineFault) -> Result<bool, Memory>
-    ensures { Told (replies.Bad fault) result (string_bytes text.new) }
+    ensures { ToldReply (replies.Bad fault) result (string_bytes text.new) }
 {
     tell(text, &Reply::Bad(fault))
 }
@@ -230,7 +230,7 @@ fn run_command<T: Table, K: CommitKeeper<T>>(
 ) -> Result<bool, Memory>
     ensures told { (reply : Reply) × HasReply (seen_as K.keeps T.TableState file.old)
         (Ok command.now) reply (seen_as K.keeps T.TableState file.new)
-        × Told reply result (string_bytes text.new) }
+        × ToldReply reply result (string_bytes text.new) }
     ensures moves { K.moves file.old.table file.new.table }
 {
     let _begun = file.begun();

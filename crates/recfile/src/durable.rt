@@ -7,10 +7,10 @@ ghost use Rattle.recfile.specs.Beside.{IsHeadFault, IsSettledWith, LeavesEnded, 
 ghost use Rattle.recfile.specs.Dumped.{CanBeOpened, IsFirstOrOutside, IsOutsideFile};
 ghost use Rattle.recfile.specs.DurableSession.{EndsDurably, IsBegunBeside, LeavesUnbegun, LeavesUnread, RunsLogged, StandsUnbegun};
 ghost use Rattle.recfile.specs.FileFaults.{is_device};
-ghost use Rattle.recfile.specs.Kept.{CountsClosing, IsOutsideDisk, IsUnopened, LeavesOld, file_of};
+ghost use Rattle.recfile.specs.Kept.{CountsClosing, IsOutsideDisk, IsUnopened, LeavesOld, opening_file};
 ghost use Rattle.recfile.specs.LogOver.{HoldsWithin, head_line};
 ghost use Rattle.recfile.specs.Settling.{IsJustSettled};
-ghost use Rattle.recfile.specs.Statuses.{status_of};
+ghost use Rattle.recfile.specs.Statuses.{exit_status_of};
 ghost use Rattle.recfile.specs.WholeSession.{IsUncounted};
 
 use crate::file_fault::FileFault;
@@ -39,7 +39,7 @@ fn close_logged<D: Disk + Drop, E: Write>(
     err: &mut E,
 ) -> DiskEnd<D>
     ensures end { result ≡ record result {
-      status = status_of false (is_some result.unclosed) script_fault;
+      status = exit_status_of false (is_some result.unclosed) script_fault;
       unopened = None;
     } }
     ensures any_moment { IsTrue table.pages.steady → (c : Files) → D.left_since result.disk 0 c
@@ -78,13 +78,13 @@ fn run_logged<L: Ledger, D: Disk + Drop, R: CountedRead<L>, W: CountedWrite<L>, 
     ensures session { IsTrue table.pages.steady → IsUncounted table
         → IsBegunBeside table.pages.opening
         → HoldsWithin limits.records table.tree.order (table_contents table)
-        (file_of table.pages.opening)
+        (opening_file table.pages.opening)
         → EndsDurably D.DiskState manner (R.left reader.old) (R.left reader.new)
         (W.held out.old) (W.held out.new) calls.old calls.new
         table.tree.order (table_contents table) limits table.pages.failures
-        ((head_line (file_of table.pages.opening) ∷ []) ∷ []) result.unclosed result.status result.disk }
+        ((head_line (opening_file table.pages.opening) ∷ []) ∷ []) result.unclosed result.status result.disk }
     ensures stopped { IsTrue table.pages.steady → result.status ≡ 4
-        → LeavesOld D.DiskState (file_of table.pages.opening) result.disk }
+        → LeavesOld D.DiskState (opening_file table.pages.opening) result.disk }
 {
     // No more than a file may have.
     let _most = limits.records();
@@ -148,7 +148,7 @@ fn begin_beside<D: Disk + Drop>(
     requires unused { (store.state ≡ SealState.Unsealed) × (store.refusals ≡ 0) × (store.log ≡ None) × (store.doubt ≡ []) }
     ensures begun { IsTrue (D.steady store.disk)
         → IfOk result (λ s. IsBegunBeside (⟦<KeptStore<D> as StoreState>⟧.opening s)) }
-    ensures opening { IfOk result (λ s. file_of (⟦<KeptStore<D> as StoreState>⟧.opening s)
+    ensures opening { IfOk result (λ s. opening_file (⟦<KeptStore<D> as StoreState>⟧.opening s)
         ≡ recovered (D.began store.disk)) }
     ensures stored { IfOk result (λ s. (D.steady s.disk ≡ D.steady store.disk)
         × (s.state ≡ SealState.Unsealed) × (s.refusals ≡ 0)
@@ -187,7 +187,7 @@ fn run_begun<L: Ledger, D: Disk + Drop, R: CountedRead<L>, W: CountedWrite<L>, E
     calls: &mut StreamCalls<L>,
 ) -> DiskEnd<D>
     requires begun { IsTrue (D.steady store.disk)
-        → ((D.seen store.disk).main ≡ file_of (⟦<KeptStore<D> as StoreState>⟧.opening store))
+        → ((D.seen store.disk).main ≡ opening_file (⟦<KeptStore<D> as StoreState>⟧.opening store))
         × IsBegunBeside (⟦<KeptStore<D> as StoreState>⟧.opening store) }
     requires unrefused { store.refusals ≡ 0 }
     ensures unread { IfSome result.unopened (λ _. (result.status ≡ 1) × (result.unclosed ≡ None)
@@ -224,10 +224,10 @@ fn run_begun<L: Ledger, D: Disk + Drop, R: CountedRead<L>, W: CountedWrite<L>, E
 /// away. The status is that of `exit_status`; a fault of the file has a line on `err` when it is met. The disk comes back.
 ///
 /// A crash at any moment of it leaves files in which an opening finds what some of the commits make, from the first on, in
-/// their order, or all and the one under way. At its end it leaves what all make, each that was answered among them, whatever
-/// failed; and while the session lasts its store is one of which `KeptStore::is_in_doubt` says the same. Where the file can't
-/// be opened no script is read, and a crash leaves the file that there was, with no log or with an empty one. Where a
-/// transaction can't be ended, a crash leaves that file, with the log.
+/// their order, or all and the one in doubt. At its end it leaves what all make, with that one or without, each that was
+/// answered among them, whatever failed; and while the session lasts its store is one of which `KeptStore::is_in_doubt` says
+/// the same. Where the file can't be opened no script is read, and a crash leaves the file that there was, with no log or with
+/// an empty one. Where a transaction can't be ended, a crash leaves that file, with the log.
 pub fn run_durable<L: Ledger, D: Disk + Drop, R: CountedRead<L>, W: CountedWrite<L>, E: Write>(
     alloc: Global,
     disk: D,

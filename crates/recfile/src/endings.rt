@@ -7,7 +7,7 @@ ghost use Rattle.record_file.specs.Steps.{Aborts, Resumes};
 ghost use Rattle.record_file.specs.declared.fault.AbortFault.{AbortFault};
 ghost use Rattle.record_file.specs.declared.fault.AbortFault.TheVariants as abort_faults;
 ghost use Rattle.record_file.specs.declared.fault.ResumeFault.{ResumeFault};
-ghost use Rattle.recfile.specs.Ending.{Asks, EndsAll, EndsOpen, StopsEnding, StopsOne, aborted, end_cause, rest_of, resumed, stopped_tx};
+ghost use Rattle.recfile.specs.Ending.{EndingAsks, EndsAll, EndsOpen, StopsEnding, StopsOne, aborted, end_cause, rest_of, resumed, stopped_tx};
 
 use rec_types::{Table, TxId};
 use record_file::{AbortFault, Cause, RecordFile, ResumeFault};
@@ -92,7 +92,7 @@ fn aborted(tx: TxId, answer: Result<u32, AbortFault>) -> Result<(), EndFault>
 fn go_on<T: Table>(file: &mut RecordFile<T>, tx: TxId) -> Result<bool, EndFault>
     ensures step { (answer : Result ℕ ResumeFault) × (result ≡ resumed tx answer)
         × Resumes file.old.file tx.0 answer file.new.file }
-    ensures asks { Asks (seen T.TableState file.old) (end_cause result)
+    ensures asks { EndingAsks (seen T.TableState file.old) (end_cause result)
         (seen T.TableState file.new) }
     ensures origin { KeepsOrigin T.TableState file.old file.new }
 {
@@ -103,7 +103,7 @@ fn go_on<T: Table>(file: &mut RecordFile<T>, tx: TxId) -> Result<bool, EndFault>
 fn give_up<T: Table>(file: &mut RecordFile<T>, tx: TxId) -> Result<(), EndFault>
     ensures step { (answer : Result ℕ AbortFault) × (result ≡ aborted tx answer)
         × Aborts file.old.file tx.0 answer file.new.file }
-    ensures asks { Asks (seen T.TableState file.old) (end_cause result)
+    ensures asks { EndingAsks (seen T.TableState file.old) (end_cause result)
         (seen T.TableState file.new) }
     ensures origin { KeepsOrigin T.TableState file.old file.new }
 {
@@ -115,7 +115,7 @@ fn end_one<T: Table>(file: &mut RecordFile<T>, tx: TxId) -> Result<bool, EndFaul
     ensures ended { IfOk result (λ was. EndsOpen file.old.file tx.0 was file.new.file) }
     ensures stopped { IfErr result (λ fault. StopsOne file.old.file fault file.new.file) }
     ensures number { IfErr result (λ fault. stopped_tx fault ≡ tx.0) }
-    ensures asks { Asks (seen T.TableState file.old) (end_cause result)
+    ensures asks { EndingAsks (seen T.TableState file.old) (end_cause result)
         (seen T.TableState file.new) }
     ensures origin { KeepsOrigin T.TableState file.old file.new }
 {
@@ -140,7 +140,7 @@ fn one_if(test: bool) -> u32
 pub fn end_all<T: Table>(file: &mut RecordFile<T>) -> Result<u32, EndFault>
     ensures ended { IfOk result (λ count. EndsAll file.old.file count file.new.file) }
     ensures stopped { IfErr result (λ fault. StopsEnding file.old.file fault file.new.file) }
-    ensures asks { Asks (seen T.TableState file.old) (end_cause result)
+    ensures asks { EndingAsks (seen T.TableState file.old) (end_cause result)
         (seen T.TableState file.new) }
     ensures origin { KeepsOrigin T.TableState file.old file.new }
     ensures records { IsTrue (T.sound file.old.table)

@@ -10,9 +10,9 @@ ghost use Rattle.btree_insert.specs.Sizes.{greatest_size};
 ghost use Rattle.btree_load.specs.Trees.{IsFilled};
 ghost use Rattle.recfile.specs.Dumped.{IsOutsideFile};
 ghost use Rattle.recfile.specs.FileFaults.{by_device, is_device_answer};
-ghost use Rattle.recfile.specs.Filling.{FillsDisk, IsBlank, loaded};
-ghost use Rattle.recfile.specs.Statuses.{status_of};
-ghost use Rattle.recfile.specs.Kept.{ClosesSafely, CountsClosing, IsKept, LeavesAs, LeavesEither, LeavesOld, file_of, is_sealed, refusals_of};
+ghost use Rattle.recfile.specs.Filling.{FillsDisk, IsBlankFile, loaded};
+ghost use Rattle.recfile.specs.Statuses.{exit_status_of};
+ghost use Rattle.recfile.specs.Kept.{ClosesSafely, CountsClosing, IsKeptWith, LeavesAs, LeavesEither, LeavesOld, opening_file, is_sealed, refused_calls};
 
 use crate::file_fault::FileFault;
 use crate::kept_file::{DiskEnd, told};
@@ -43,7 +43,7 @@ fn seal_and_fill<S: SealStore>(
     ensures opening { S.opening store.new ≡ S.opening store.old }
     ensures device { S.failures store.new ≡ counted (S.failures store.old) (is_device_answer result) }
     ensures guard { S.guard store.old ≡ Unsealed 0 → S.tail store.old ≡ 0
-        → (refusals_of (S.guard store.new) ≡ 0) × OnOk result (is_sealed (S.guard store.new) ≡ true) }
+        → (refused_calls (S.guard store.new) ≡ 0) × OnOk result (is_sealed (S.guard store.new) ≡ true) }
 {
     store.seal(&[0])?;
     fill(alloc, store, order, records)?;
@@ -60,10 +60,10 @@ fn fill_table<D: Disk + Drop>(
     requires records { Ascends records.now × (length records.now ≤ greatest_size) }
     requires short { length table.pages.stored ≤ 1 }
     ensures any_moment { IsTrue table.pages.steady
-        → LeavesEither D.DiskState (file_of table.pages.opening) table.tree.order (loaded records.now)
+        → LeavesEither D.DiskState (opening_file table.pages.opening) table.tree.order (loaded records.now)
         result.0 }
     ensures closed { IsTrue table.pages.steady
-        → OnOk result.1 (IsKept D.DiskState table.tree.order (loaded records.now) result.0) }
+        → OnOk result.1 (IsKeptWith D.DiskState table.tree.order (loaded records.now) result.0) }
     ensures fault { IfErr result.1 IsOutsideFile }
     ensures device { table.pages.guard ≡ Unsealed 0 → table.pages.tail ≡ 0
         → CountsClosing table.pages.failures (is_err result.1) (is_device_answer result.1)
@@ -88,13 +88,13 @@ fn end_filled<D: Disk + Drop, E: Write>(
 ) -> DiskEnd<D>
     requires records { Ascends records.now × (length records.now ≤ greatest_size) }
     requires short { length table.pages.stored ≤ 1 }
-    ensures closed { IsTrue table.pages.steady → ClosesSafely D.DiskState (file_of table.pages.opening)
+    ensures closed { IsTrue table.pages.steady → ClosesSafely D.DiskState (opening_file table.pages.opening)
         result.disk result.unclosed table.tree.order (loaded records.now) }
     ensures fault { IfSome result.unclosed IsOutsideFile }
     ensures device { table.pages.guard ≡ Unsealed 0 → table.pages.tail ≡ 0
         → CountsClosing table.pages.failures (is_some result.unclosed) (by_device result.unclosed)
         (D.failures result.disk) }
-    ensures status { result.status ≡ status_of false (is_some result.unclosed) false }
+    ensures status { result.status ≡ exit_status_of false (is_some result.unclosed) false }
 {
     let (disk, done) = fill_table(alloc, table, records);
     tell_fault_of(err, &done);
@@ -114,10 +114,10 @@ fn blank_table<D: Disk + Drop>(
 ) -> Result<TreeTable<KeptStore<D>>, D>
     requires unused { (store.state ≡ SealState.Unsealed) × (store.refusals ≡ 0) }
     ensures blank { IsTrue (D.steady store.disk)
-        → IfOk result (λ table. IsBlank table.tree.order (D.seen store.disk).main) }
+        → IfOk result (λ table. IsBlankFile table.tree.order (D.seen store.disk).main) }
     ensures short { IfOk result (λ table. length table.pages.stored ≤ 1) }
     ensures store { IfOk result (λ table. (table.pages.steady ≡ D.steady store.disk)
-        × (file_of table.pages.opening ≡ recovered (D.began store.disk))
+        × (opening_file table.pages.opening ≡ recovered (D.began store.disk))
         × (table.pages.failures ≡ D.failures store.disk)) }
     ensures unused { IfOk result (λ table. (table.pages.guard ≡ Unsealed 0) × (table.pages.tail ≡ 0)) }
     ensures left { IsTrue (D.steady store.disk)

@@ -10,9 +10,9 @@ ghost use Rattle.page_journal.specs.Crash.{IsAtRest};
 ghost use Rattle.recfile.specs.Beside.{FindsEach, FindsWhole, LeavesEitherBeside, LeavesOpening};
 ghost use Rattle.recfile.specs.Dumped.{CanBeOpened, IsFirstOrOutside, IsOutsideFile};
 ghost use Rattle.recfile.specs.FileFaults.{answer_of_store, by_device, is_device, is_device_answer};
-ghost use Rattle.recfile.specs.Kept.{CountsClosing, RunsOn, is_sealed, refusals_of, file_of, LeavesAs, LeavesOld, LeavesEither, IsKept, ClosesSafely, IsOutsideDisk, IsUnopened};
+ghost use Rattle.recfile.specs.Kept.{CountsClosing, RunsOn, is_sealed, refused_calls, opening_file, LeavesAs, LeavesOld, LeavesEither, IsKeptWith, ClosesSafely, IsOutsideDisk, IsUnopened};
 ghost use Rattle.recfile.specs.LogOver.{HoldsRecords};
-ghost use Rattle.recfile.specs.Statuses.{status_of};
+ghost use Rattle.recfile.specs.Statuses.{exit_status_of};
 ghost use Rattle.recfile.specs.WholeSession.{EndsFile, IsUncounted, RunsAny, opened_file};
 
 use crate::file_fault::FileFault;
@@ -43,14 +43,14 @@ pub struct DiskEnd<D: Disk + Drop> {
 // The disk of a table that isn't closed, with the old file put back. Where that fails the side file stays, and the next
 // opening puts it back.
 pub(crate) fn give_back<D: Disk + Drop>(table: TreeTable<KeptStore<D>>) -> D
-    ensures old { IsTrue table.pages.steady → LeavesOld D.DiskState (file_of table.pages.opening) result }
+    ensures old { IsTrue table.pages.steady → LeavesOld D.DiskState (opening_file table.pages.opening) result }
     ensures commits { IsTrue table.pages.steady → (c : Files) → D.left_since result 0 c
         → LeavesOpening table.pages.opening c }
     ensures lasts { IsTrue table.pages.steady → (c : Files) → D.may_leave result c
         → FindsEach table.pages.opening.logged table.pages.opening.log table.pages.opening.commits
         table.pages.opening.doubt c }
     ensures steady { D.steady result ≡ table.pages.steady }
-    ensures device { refusals_of table.pages.guard ≡ 0 → (again : Bool)
+    ensures device { refused_calls table.pages.guard ≡ 0 → (again : Bool)
         × (D.failures result ≡ counted table.pages.failures again)
         × (is_sealed table.pages.guard ≡ false → again ≡ false) }
 {
@@ -74,7 +74,7 @@ pub(crate) fn close_table<D: Disk + Drop>(
     table: TreeTable<KeptStore<D>>,
 ) -> (D, Result<(), FileFault>)
     ensures any_moment { IsTrue table.pages.steady
-        → LeavesEither D.DiskState (file_of table.pages.opening) table.tree.order (table_contents table)
+        → LeavesEither D.DiskState (opening_file table.pages.opening) table.tree.order (table_contents table)
         result.0 }
     ensures commits { IsTrue table.pages.steady → (c : Files) → D.left_since result.0 0 c
         → LeavesEitherBeside table.pages.opening table.tree.order (table_contents table) c }
@@ -87,7 +87,7 @@ pub(crate) fn close_table<D: Disk + Drop>(
         → FindsEach table.pages.opening.logged table.pages.opening.log table.pages.opening.commits
         table.pages.opening.doubt c }
     ensures closed { IsTrue table.pages.steady
-        → OnOk result.1 (IsKept D.DiskState table.tree.order (table_contents table) result.0) }
+        → OnOk result.1 (IsKeptWith D.DiskState table.tree.order (table_contents table) result.0) }
     ensures fault { IfErr result.1 IsOutsideFile }
     ensures steady { D.steady result.0 ≡ table.pages.steady }
     ensures device { table.pages.guard ≡ Unsealed 0 → table.pages.tail ≡ 0
@@ -116,13 +116,13 @@ fn close_kept<D: Disk + Drop, E: Write>(
     err: &mut E,
 ) -> DiskEnd<D>
     ensures opened { result.unopened ≡ None }
-    ensures closed { IsTrue table.pages.steady → ClosesSafely D.DiskState (file_of table.pages.opening)
+    ensures closed { IsTrue table.pages.steady → ClosesSafely D.DiskState (opening_file table.pages.opening)
         result.disk result.unclosed table.tree.order (table_contents table) }
     ensures fault { IfSome result.unclosed IsOutsideFile }
     ensures device { table.pages.guard ≡ Unsealed 0 → table.pages.tail ≡ 0
         → CountsClosing table.pages.failures (is_some result.unclosed) (by_device result.unclosed)
         (D.failures result.disk) }
-    ensures status { result.status ≡ status_of false (is_some result.unclosed) script_fault }
+    ensures status { result.status ≡ exit_status_of false (is_some result.unclosed) script_fault }
 {
     let (disk, done) = close_table(table);
     tell_fault_of(err, &done);
@@ -156,11 +156,11 @@ fn run_table<L: Ledger, D: Disk + Drop, R: CountedRead<L>, W: CountedWrite<L>, E
         → EndsFile manner (R.left reader.old) (R.left reader.new)
         (W.held out.old) (W.held out.new) calls.old calls.new
         (opened_file (table_contents table) limits table.pages.failures)
-        (ClosesSafely D.DiskState (file_of table.pages.opening) result.disk result.unclosed
+        (ClosesSafely D.DiskState (opening_file table.pages.opening) result.disk result.unclosed
         table.tree.order)
         result.unclosed result.status }
     ensures stopped { IsTrue table.pages.steady → IsUncounted table
-        → result.status ≡ 4 → LeavesOld D.DiskState (file_of table.pages.opening) result.disk }
+        → result.status ≡ 4 → LeavesOld D.DiskState (opening_file table.pages.opening) result.disk }
 {
     let mut file = RecordFile::new(alloc, table, limits);
     let end = run_session(

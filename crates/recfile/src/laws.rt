@@ -8,7 +8,7 @@ ghost use Rattle.rec_types.specs.Table.{greatest_count};
 ghost use Rattle.rec_types.specs.declared.transaction.TxId.{TxId};
 ghost use Rattle.record_file.specs.Abstract.{File, new_file, open_of};
 ghost use Rattle.record_file.specs.Durable.{overlay};
-ghost use Rattle.record_file.specs.Runs.{Seen};
+ghost use Rattle.record_file.specs.Runs.{IsKeptSeen, Seen};
 ghost use Rattle.page_store.specs.Journal.{Journal, noted};
 ghost use Rattle.page_store.specs.declared.step.Step.TheVariants as steps;
 ghost use Rattle.page_journal.specs.Examples.{alone, both_writes, old_file};
@@ -29,13 +29,13 @@ ghost use Rattle.record_texts.specs.declared.form.Form.TheVariants.{Tsv};
 ghost use Rattle.recfile.specs.Dumped.{ReadingStops};
 ghost use Rattle.recfile.specs.Ending.{EndsAll, without};
 ghost use Rattle.recfile.specs.Examples.{four_changes, two_taken_back};
-ghost use Rattle.recfile.specs.Kept.{ClosesSafely, CountsClosing, HasRecords, IsKept, LeavesEither};
+ghost use Rattle.recfile.specs.Kept.{ClosesSafely, CountsClosing, HasRecords, IsKeptWith, LeavesEither};
 ghost use Rattle.recfile.specs.LogOver.{Finds, HoldsRecords, IsHead, IsLogOver};
 ghost use Rattle.recfile.specs.Overlaid.{IsLogCommand, SayWrites, writes_in_turn, writes_said};
 ghost use Rattle.recfile.specs.Room.{HasRoomFor, was_kept};
 ghost use Rattle.recfile.specs.Run.{Session};
 ghost use Rattle.recfile.specs.SessionCommits.{IsInDoubt, MakesCommits, in_doubt};
-ghost use Rattle.recfile.specs.Settling.{PutsRight};
+ghost use Rattle.recfile.specs.Settling.{FindsAny, PutsRight};
 ghost use Rattle.recfile.specs.Spelled.{SpellsLines};
 ghost use Rattle.recfile.specs.StoreSession.{WritesBack};
 ghost use Rattle.recfile.specs.Streams.{CallsMade, TellsFailed, no_call, run_read_fault, run_write_fault};
@@ -99,7 +99,7 @@ pub fn commits_last_in_order()
 
 /// What no durable session leaves: the records without a commit that was kept, where none is in doubt; records that no commit
 /// made; the commit in doubt without the one before it; a log beside the file that it closed. No commit is in doubt of a
-/// transaction that wasn't begun, and none is kept that isn't in the log.
+/// transaction that wasn't begun, nor of writes that the session didn't make, and none is kept that isn't in the log.
 pub fn durable_sessions_by_example()
     ensures lost { (manner : Manner) (left leaves held holds : Option (List ℕ))
         (before after : CallsMade) (order : ℕ) (contents : Contents) (limits : Bounds) (failures : ℕ)
@@ -132,9 +132,11 @@ pub fn durable_sessions_by_example()
         order contents limits failures commits None status disk) → (count : ℕ) (c : Files)
         → ends.run.ended ≡ Ok count → MayLeave disk.first disk.calls c
         → c.commits.log ≢ None → ⊥ }
-    ensures unbegun { (old : Seen) (text : List ℕ) (es : List Write) (contents : Contents)
-        (limits : Bounds) → (doubt : IsInDoubt old text es) → old.file ≡ new_file contents limits
-        → doubt.events ≡ [] → ⊥ }
+    ensures unbegun { (old new : Seen) (es : List Write) (contents : Contents) (limits : Bounds)
+        → (doubt : IsInDoubt old new es) → old.file ≡ new_file contents limits
+        → doubt.before ≡ [] → ⊥ }
+    ensures unwritten { (old new : Seen) (es : List Write) → IsKeptSeen new
+        → IsInDoubt old new es → new.log ≡ [] → es ≢ [] → ⊥ }
     ensures unkept { (old new : Seen) → (made : MakesCommits old new) → (es : List Write)
         → made.kept ≡ es ∷ [] → new.commits ≡ old.commits → ⊥ }
 {}
@@ -201,16 +203,16 @@ pub fn closings_are_counted()
 /// than there were.
 pub fn closings_by_example()
     ensures others { (disk : History) (order later : ℕ) (records others : Contents)
-        → IsKept ⟦<MemDisk as DiskState>⟧ order records disk → records ≢ others
-        → IsKept ⟦<MemDisk as DiskState>⟧ later others disk → ⊥ }
+        → IsKeptWith ⟦<MemDisk as DiskState>⟧ order records disk → records ≢ others
+        → IsKeptWith ⟦<MemDisk as DiskState>⟧ later others disk → ⊥ }
     ensures unsynced { (main : PageFile) (page : List ℕ) (failures order : ℕ) (records : Contents)
-        → slice_get main.pages 0 ≢ Some page → IsKept ⟦<MemDisk as DiskState>⟧ order records (record {
+        → slice_get main.pages 0 ≢ Some page → IsKeptWith ⟦<MemDisk as DiskState>⟧ order records (record {
           first = alone main;
           calls = DiskCall.Write 0 page ∷ [];
           failures = failures;
         }) → ⊥ }
     ensures side_file { (first : Files) (kept : Kept) (failures order : ℕ) (records : Contents)
-        → first.side ≡ Some kept → IsKept ⟦<MemDisk as DiskState>⟧ order records (record {
+        → first.side ≡ Some kept → IsKeptWith ⟦<MemDisk as DiskState>⟧ order records (record {
           first = first;
           calls = [];
           failures = failures;
@@ -287,8 +289,9 @@ pub fn sessions_and_crashes()
 {}
 
 /// What puts no page file right, by disks in memory. Where an opening finds records in the old files, the file doesn't have
-/// others at Ok, and no crash on the way leaves files in which it finds others. No log stands beside the file at Ok. BadJournal
-/// isn't answered where the side file is of the file, nor BadCommits where an opening finds records.
+/// others at Ok, and no crash on the way leaves files in which it finds others; where it finds none, none leaves files that
+/// stand for another file. No log stands beside the file at Ok. BadJournal isn't answered where the side file is of the file,
+/// nor BadCommits where an opening finds records, nor Device where the disk didn't fail; and where it did, not Ok.
 pub fn settlings_by_example()
     ensures dropped { (old new : History) (order later : ℕ) (records others : Contents)
         → Finds order records old.first → records ≢ others
@@ -300,11 +303,19 @@ pub fn settlings_by_example()
         (records others : Contents) (left : Files) → Finds order records old.first
         → PutsRight ⟦<MemDisk as DiskState>⟧ old answer new
         → LeftSince new.first new.calls 0 left → records ≢ others → Finds later others left → ⊥ }
+    ensures written_over { (old new : History) (answer : Result (Unit {0}) FileFault) (left : Files)
+        → (FindsAny old.first → ⊥) → PutsRight ⟦<MemDisk as DiskState>⟧ old answer new
+        → LeftSince new.first new.calls 0 left → recovered left ≢ recovered old.first → ⊥ }
     ensures journal_blamed { (old new : History) → Belongs old.first
         → PutsRight ⟦<MemDisk as DiskState>⟧ old (Err faults.BadJournal) new → ⊥ }
     ensures healthy_refused { (old new : History) (order : ℕ) (records : Contents)
         → Finds order records old.first
         → PutsRight ⟦<MemDisk as DiskState>⟧ old (Err faults.BadCommits) new → ⊥ }
+    ensures disk_blamed { (old new : History) → old.failures < greatest_count
+        → PutsRight ⟦<MemDisk as DiskState>⟧ old (Err faults.Device) new
+        → new.failures ≡ old.failures → ⊥ }
+    ensures failure_hidden { (old new : History) → PutsRight ⟦<MemDisk as DiskState>⟧ old (Ok tt) new
+        → new.failures ≢ old.failures → ⊥ }
 {}
 
 /// What a dump leaves that isn't whole: a front of its text at a failed device, and never the whole text; no other fault of the

@@ -14,9 +14,9 @@ ghost use Rattle.btree_delete.specs.Origins.{opened_in, origin_of};
 ghost use Rattle.btree_delete.specs.TableView.{IsClosed, table_contents};
 ghost use Rattle.recfile.specs.Dumped.{CanBeOpened, DumpStops, IsDumpFault, IsOutsideFile, IsSilent, is_device_dump};
 ghost use Rattle.recfile.specs.FileFaults.{IsMakingFault, IsRefusal, by_device, is_device_answer};
-ghost use Rattle.recfile.specs.Statuses.{status_of};
-ghost use Rattle.recfile.specs.StoreSession.{ClosesIn, MakesIn, RunsIn, WritesBack, asks_shape};
-ghost use Rattle.recfile.specs.Tasks.{IsLine, Writes};
+ghost use Rattle.recfile.specs.Statuses.{exit_status_of};
+ghost use Rattle.recfile.specs.StoreSession.{ClosesIn, MakesIn, RunsIn, WritesBack, wants_shape};
+ghost use Rattle.recfile.specs.Tasks.{IsTreeLine, Writes};
 ghost use Rattle.recfile.specs.TreeLine.{counts_in, counts_line};
 ghost use Rattle.recfile.specs.WholeSession.{EndsFile, IsUncounted, opened_file};
 
@@ -52,7 +52,7 @@ pub fn create_in<S: Store>(
     ensures refused { IfErr result.1
         (λ fault. IsRefusal fault → StaysStore S.StoreState store result.0) }
     ensures written { MakesIn S.StoreState store order result.1 result.0 }
-    ensures asked { S.shapes result.0 ≡ counted (S.shapes store) (asks_shape result.1) }
+    ensures asked { S.shapes result.0 ≡ counted (S.shapes store) (wants_shape result.1) }
     ensures device { S.failures result.0
         ≡ counted (S.failures store) (is_device_answer result.1) }
     ensures steady { S.steady result.0 ≡ S.steady store }
@@ -149,7 +149,7 @@ pub fn check_in<S: Store, W: Write>(
         (counts_line (counts_in tree contents (length (S.pages store)))))
         (DumpStops (W.contents out.old) (W.contents out.new)
         (counts_line (counts_in tree contents (length (S.pages store))))) }
-    ensures written { Writes IsLine (W.contents out.old) (W.contents out.new) result.1 }
+    ensures written { Writes IsTreeLine (W.contents out.old) (W.contents out.new) result.1 }
     ensures stays { StaysStore S.StoreState store result.0 }
     ensures asked { S.shapes result.0 ≡ counted (S.shapes store) true }
     ensures device { S.failures result.0
@@ -186,7 +186,7 @@ fn close_in<S: Store, E: Write>(table: TreeTable<S>, script_fault: bool, err: &m
         (S.journal result.store) }
     ensures asked { S.shapes result.store ≡ table.pages.shapes }
     ensures fault { IfSome result.unclosed IsOutsideFile }
-    ensures status { result.status ≡ status_of false (is_some result.unclosed) script_fault }
+    ensures status { result.status ≡ exit_status_of false (is_some result.unclosed) script_fault }
     ensures device { S.failures result.store
         ≡ counted table.pages.failures (by_device result.unclosed) }
 {

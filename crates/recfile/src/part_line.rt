@@ -1,6 +1,6 @@
 ghost use Rattle.std.specs.Prelude.{◌≡◌, ◌==◌, ℕ, ◌++◌, List, length, IfOk, IsTrue};
 ghost use Rattle.command_text.specs.Script.{bounded_line_of};
-ghost use Rattle.recfile.specs.PartLine.{IsPart, no_part};
+ghost use Rattle.recfile.specs.PartLine.{IsPartOfLine, no_part};
 
 use command_text::{Command, LONGEST_LINE, LineFault, read_bounded_line};
 use std::alloc::{AllocError, Global};
@@ -40,7 +40,7 @@ impl PartLine {
 
     /// Goes on with the line.
     pub fn push(&mut self, piece: &[u8])
-        ensures { (begun : List ℕ) → IsPart self.old begun → IsPart self.new (begun ++ piece.now) }
+        ensures { (begun : List ℕ) → IsPartOfLine self.old begun → IsPartOfLine self.new (begun ++ piece.now) }
     {
         if self.long || piece.len() > LONGEST_LINE - self.bytes.len() {
             self.long = true;
@@ -53,7 +53,7 @@ impl PartLine {
 
     // What the line says that was kept.
     fn read(&self) -> Result<Option<Command>, LineFault>
-        ensures { (begun : List ℕ) → IsPart self.now begun → result ≡ bounded_line_of begun }
+        ensures { (begun : List ℕ) → IsPartOfLine self.now begun → result ≡ bounded_line_of begun }
     {
         if self.long {
             return Err(LineFault::LineTooLong);
@@ -72,7 +72,7 @@ impl PartLine {
     /// Whether no byte of a line has come.
     pub fn is_new(&self) -> bool
         ensures none { IsTrue result → self.now ≡ no_part }
-        ensures some { (begun : List ℕ) → IsPart self.now begun → result ≡ (length begun == 0) }
+        ensures some { (begun : List ℕ) → IsPartOfLine self.now begun → result ≡ (length begun == 0) }
     {
         !self.long && self.bytes.is_empty()
     }
@@ -80,7 +80,7 @@ impl PartLine {
     /// Ends the line with its last bytes, and answers what it says; no line has begun then. Faults: those of
     /// `read_bounded_line`.
     pub fn end(&mut self, piece: &[u8]) -> Result<Option<Command>, LineFault>
-        ensures said { (begun : List ℕ) → IsPart self.old begun
+        ensures said { (begun : List ℕ) → IsPartOfLine self.old begun
             → result ≡ bounded_line_of (begun ++ piece.now) }
         ensures next { self.new ≡ no_part }
     {

@@ -1,8 +1,8 @@
 ghost use Rattle.std.specs.Prelude.{◌≡◌, ◌⊎◌, if◌then◌else◌};
 ghost use Rattle.std.specs.Result.{is_err};
 ghost use Rattle.rec_types.specs.LimitBounds.{most_records};
-ghost use Rattle.recfile.specs.FilesAt.{Copies, Creates, Tells, TellsRecords, TellsTree};
-ghost use Rattle.recfile.specs.Tasks.{Does, DoesAny, IsDump, IsLine, Rescues, Writes, WritesListed, text_status, told_status};
+ghost use Rattle.recfile.specs.FilesAt.{Copies, Creates, TellsOfFile, TellsRecords, TellsTree};
+ghost use Rattle.recfile.specs.Tasks.{DoesTask, DoesAny, IsDump, IsTreeLine, Rescues, Writes, WritesListed, text_status, told_status};
 
 use crate::copying::{CopyingFault, copy_into, open_whole};
 use crate::dump::{DumpFault, dump_in, rescue_in};
@@ -36,15 +36,15 @@ fn create<P: PageFiles>(files: &P, alloc: Global, order: u16, path: &str) -> Res
     files.settle(alloc, path, &store, made)
 }
 
-// Tells of the tree of the page file at a path.
+// TellsOfFile of the tree of the page file at a path.
 fn check<P: PageFiles, W: Write>(
     files: &P,
     alloc: Global,
     path: &str,
     out: &mut W,
 ) -> Result<(), DumpFault>
-    ensures line { Writes IsLine (W.contents out.old) (W.contents out.new) result }
-    ensures told { Tells P.Pages.StoreState (P.at files.now path.now) most_records
+    ensures line { Writes IsTreeLine (W.contents out.old) (W.contents out.new) result }
+    ensures told { TellsOfFile P.Pages.StoreState (P.at files.now path.now) most_records
         (TellsTree (W.contents out.old) (W.contents out.new))
         (W.contents out.old) (W.contents out.new) result }
 {
@@ -71,7 +71,7 @@ fn dump<P: PageFiles, W: Write>(
     out: &mut W,
 ) -> Result<(), DumpFault>
     ensures text { WritesListed (IsDump form) (W.contents out.old) (W.contents out.new) result }
-    ensures told { Tells P.Pages.StoreState (P.at files.now path.now) most_records
+    ensures told { TellsOfFile P.Pages.StoreState (P.at files.now path.now) most_records
         (TellsRecords form (W.contents out.old) (W.contents out.new))
         (W.contents out.old) (W.contents out.new) result }
 {
@@ -194,7 +194,7 @@ fn show<W: Write, E: Write>(fault: UsageFault, out: &mut W, err: &mut E) -> u8
     }
 }
 
-// Does a task, and answers the status.
+// DoesTask a task, and answers the status.
 fn run_task<L: Ledger, P: PageFiles, R: Read, W: Write, E: Screen>(
     files: &P,
     alloc: Global,
@@ -204,7 +204,7 @@ fn run_task<L: Ledger, P: PageFiles, R: Read, W: Write, E: Screen>(
     err: &mut E,
     calls: &mut StreamCalls<L>,
 ) -> u8
-    ensures { Does P.Device.DiskState P.Pages.StoreState (P.at files.now) task.entry
+    ensures { DoesTask P.Device.DiskState P.Pages.StoreState (P.at files.now) task.entry
         (R.remaining reader.old) (R.remaining reader.new)
         (W.contents out.old) (W.contents out.new) calls.old calls.new result }
 {
@@ -252,7 +252,7 @@ fn run_task<L: Ledger, P: PageFiles, R: Read, W: Write, E: Screen>(
     }
 }
 
-/// Does what the words ask for, of which the first is the program's name, and answers the status: that of
+/// DoesTask what the words ask for, of which the first is the program's name, and answers the status: that of
 /// `exit_status`, or 2 where the words can't be read. Faults have their lines on `err`. A session has its lines and its
 /// replies by calls that are counted, and so has the script of a load; no other task has.
 ///

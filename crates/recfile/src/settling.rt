@@ -207,7 +207,9 @@ fn settle_table<D: Disk + Drop>(
     ensures fault { IsTrue table.pages.steady → (units : List (List (List ℕ))) → AreUnits units
         → text.now ≡ log_text units → IfErr result.1 (IsUnput ((records : Contents)
         × IsLogOver head.now (table_contents table) records units)) }
-    ensures bad { IsTrue table.pages.steady → result.1 ≡ Err FileFault.BadCommits → (c : Files)
+    ensures unput { IsTrue table.pages.steady → (units : List (List (List ℕ))) → AreUnits units
+        → text.now ≡ log_text units → ((records : Contents)
+        → IsLogOver head.now (table_contents table) records units → ⊥) → (c : Files)
         → D.left_since result.0 0 c → LeavesOpening table.pages.opening c }
     ensures failures { table.pages.guard ≡ Unsealed 0 → table.pages.tail ≡ 0
         → CountsClosing table.pages.failures (is_err result.1) (is_device_answer result.1)
@@ -240,8 +242,8 @@ fn settle_file<D: Disk + Drop>(
     ensures fault { IsTrue (D.steady store.disk)
         → IfErr result.1 (λ fault. IsUnsettledOver (D.began store.disk) fault
         × (FindsAny (D.began store.disk) → IsSettlingFault fault)) }
-    ensures bad { IsTrue (D.steady store.disk) → result.1 ≡ Err FileFault.BadCommits → (c : Files)
-        → D.left_since result.0 0 c → LeavesFiles (D.began store.disk) c }
+    ensures unfound { IsTrue (D.steady store.disk) → (FindsAny (D.began store.disk) → ⊥)
+        → (c : Files) → D.left_since result.0 0 c → LeavesFiles (D.began store.disk) c }
     ensures failures { CountsClosing (D.failures store.disk) (is_err result.1)
         (is_device_answer result.1) (D.failures result.0) }
     ensures steady { D.steady result.0 ≡ D.steady store.disk }
@@ -259,8 +261,8 @@ fn settle_file<D: Disk + Drop>(
 
 /// Puts a page file on a disk that was just opened right, as a stop left it: old pages are put back where a side file has
 /// them; then what a log of commits beside it says is put over its records, the file is closed, and the log is taken away. A
-/// crash at any moment of it leaves files in which an opening finds the records that it found before. Without a side file and
-/// a log nothing is changed.
+/// crash at any moment of it leaves files in which an opening finds the records that it found before; where it found none, they
+/// stand for what they stood for. Without a side file and a log nothing is changed.
 ///
 /// Faults: Device, where the disk failed; Memory; BadJournal, where the side file is of another file. Where a log stands beside
 /// the file, the first check of it that fails, too; of a closed file BadCommits, where the log is none of this version, or is

@@ -6,7 +6,7 @@ ghost use Rattle.std.specs.Io.KnownBytes.{ReadConsumes};
 ghost use Rattle.record_file.specs.Runs.{Seen, seen_as};
 ghost use Rattle.command_text.specs.Script.{bounded_entries_in, ended_lines, lines_of};
 ghost use Rattle.recfile.specs.Run.{commands, says_command};
-ghost use Rattle.recfile.specs.Shell.{Answered, AnsweredSoFar, IsAnswered, LineAnswered, LineStops, RanLines, Start, StopsAt, counted_to};
+ghost use Rattle.recfile.specs.Shell.{LinesAnswered, AnsweredSoFar, IsAnswered, LineAnswered, LineStops, RanLines, Start, StopsAtLine, counted_to};
 
 use crate::call::command_count;
 use crate::commit_keeper::CommitKeeper;
@@ -155,7 +155,7 @@ fn answer_lines<L: Ledger, T: Table, K: CommitKeeper<T>, W: CountedWrite<L>>(
         → MatchResult result
         (λ _. AnsweredSoFar strict held (W.held writer.new) old (seen_as K.keeps T.TableState file.new)
         (taken ++ bytes.now) part.new counts.new)
-        (λ fault. StopsAt strict held (W.held writer.new) old (seen_as K.keeps T.TableState file.new)
+        (λ fault. StopsAtLine strict held (W.held writer.new) old (seen_as K.keeps T.TableState file.new)
         (ended_lines (taken ++ bytes.now)) fault) }
     ensures moves { K.moves file.old.table file.new.table }
     ensures failed { calls.new ≡ record calls.old {
@@ -189,10 +189,10 @@ fn answer_last<L: Ledger, T: Table, K: CommitKeeper<T>, W: CountedWrite<L>>(
         → AnsweredSoFar strict held (W.held writer.old) old (seen_as K.keeps T.TableState file.old)
         taken part.old counts
         → MatchResult result
-        (λ done. Answered strict held (W.held writer.new) old (lines_of taken)
+        (λ done. LinesAnswered strict held (W.held writer.new) old (lines_of taken)
         (seen_as K.keeps T.TableState file.new)
         × (done ≡ counted_to (commands (bounded_entries_in (lines_of taken)))))
-        (λ fault. StopsAt strict held (W.held writer.new) old (seen_as K.keeps T.TableState file.new)
+        (λ fault. StopsAtLine strict held (W.held writer.new) old (seen_as K.keeps T.TableState file.new)
         (lines_of taken) fault) }
     ensures moves { K.moves file.old.table file.new.table }
     ensures failed { calls.new ≡ record calls.old {

@@ -1,10 +1,10 @@
 ghost use Rattle.std.specs.Prelude.{◌≡◌};
-ghost use Rattle.recfile.specs.Statuses.{status_of};
+ghost use Rattle.recfile.specs.Statuses.{exit_status_of};
 
 /// The status of the program: 4 where the transactions that were left open could not all be ended, else 1 for a
 /// fault of the file, else 3 for a fault of the script, else 0.
 pub fn exit_status(end_stopped: bool, file_fault: bool, script_fault: bool) -> u8
-    ensures { result ≡ status_of end_stopped file_fault script_fault }
+    ensures { result ≡ exit_status_of end_stopped file_fault script_fault }
 {
     if end_stopped {
         4

@@ -2,7 +2,7 @@ ghost use Rattle.std.specs.Prelude.{◌≡◌, IfOk, codes};
 ghost use Rattle.clap.specs.Matches.{found_of};
 ghost use Rattle.clap.specs.Simple.{subcommand_rows_of};
 ghost use Rattle.clap.specs.Walk.{one_of, rows_of};
-ghost use Rattle.recfile.specs.Words.{AreLimits, AsksFor, IsDrawing, IsFlag, IsForm, IsManner, IsNamed, IsRead, IsSeparator, IsShell, word_in};
+ghost use Rattle.recfile.specs.Words.{AreAskedLimits, AsksFor, IsDrawing, IsFlag, IsForm, IsManner, IsNamed, IsRead, IsSeparator, IsShell, word_in};
 
 use crate::limits::greatest_limits;
 use crate::manner::{Feed, Manner};
@@ -322,7 +322,7 @@ fn number_of(found: &ArgMatches<'_>, id: &str, default: u32) -> u32
 
 // The limits that were asked for; those that were not are the greatest.
 fn limits_of(found: &ArgMatches<'_>) -> Result<Limits, LimitFault>
-    ensures { IfOk result (AreLimits (rows_of (found_of found.now))) }
+    ensures { IfOk result (AreAskedLimits (rows_of (found_of found.now))) }
 {
     Limits::new(
         number_of(found, "records", MOST_RECORDS),

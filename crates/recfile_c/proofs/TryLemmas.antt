@@ -12,10 +12,10 @@ use Rattle.btree_delete.specs.Closing.{closing, IsNewOrFile, IsEither}
 use Rattle.btree_delete.specs.Origins.{Origin, origin_of as table_origin}
 use Rattle.btree_delete.specs.TableView.{TableView, IsClosed, table_contents}
 use Rattle.rec_types.specs.Contents.{Contents}
-use Rattle.recfile_c.specs.Paged.{HasNoStep, HasTried, KeepsTable, IsTriedAgain, MakesPages, OpensPages, Settles}
-use Rattle.recfile_c.specs.FileTables.{origin_of}
+use Rattle.recfile_c.specs.Paged.{HasNoStep, HasTried, KeepsUnclosed, IsTriedAgain, MakesPages, OpensPages, Settles}
+use Rattle.recfile_c.specs.FileTables.{origin_in}
 use Rattle.recfile_c.specs.declared.file_table.FileTable.TheVariants.{Paged}
-use Rattle.recfile_c.specs.Steps.{JournalView, pages_of, journal_of}
+use Rattle.recfile_c.specs.Steps.{JournalView, pages_after, journal_of}
 use Rattle.recfile_c.proofs.StepLaws.{steps_in, opened_in}
 
 -- a journal without a step is known by its pages
@@ -98,14 +98,14 @@ last_try t j opened ks steps has =
 pub fronts_tried : (t : TableView) (j : JournalView) (ks : List ℕ) → journal_of j ≡ noted t.pages.journal (closing t) → HasTried t j.opened ks
     → ((old : List (List ℕ)) (js : List ℕ) → IsNewOrFile old → IsEither old (carried old (closing t)) (carried old (tried js (closing t))))
     → ((old : List (List ℕ)) (js : List ℕ) → carried (carried old (tried js (closing t))) (closing t) ≡ carried old (closing t))
-    → IsNewOrFile j.opened → (m : ℕ) → IsEither j.opened (pages_of j) (carried j.opened (take m j.steps))
+    → IsNewOrFile j.opened → (m : ℕ) → IsEither j.opened (pages_after j) (carried j.opened (take m j.steps))
 fronts_tried t j ks steps has fronts again file m =
     let all = closing t in
     let is = (last_try t j j.opened ks steps has).1 in
     let whole : tried ks all ++ all ≡ tried (ks ++ length all ∷ []) all = ap (λ (ss : List Step). tried ks all ++ ss) (sym (take-length all)) ∙ sym (tried_one ks (length all) all) in
     let front = front_of_tries (ks ++ length all ∷ []) m all in
     let left : carried j.opened (take m j.steps) ≡ carried j.opened (tried front.0 all) = ap (λ (ss : List Step). carried j.opened (take m ss)) (is ∙ whole) ∙ ap (carried j.opened) front.1 in
-    let new : pages_of j ≡ carried j.opened all = ap (carried j.opened) is ∙ carried-append j.opened (tried ks all) all ∙ again j.opened ks in
+    let new : pages_after j ≡ carried j.opened all = ap (carried j.opened) is ∙ carried-append j.opened (tried ks all) all ∙ again j.opened ks in
     subst (λ (ps : List (List ℕ)). IsEither j.opened ps (carried j.opened (take m j.steps))) (sym new)
     (subst (λ (ps : List (List ℕ)). IsEither j.opened (carried j.opened all) ps) (sym left) (fronts j.opened front.0 file))
 
@@ -114,7 +114,7 @@ pub tries_again : (n : ℕ) (old new : TableView) (opened : List (List ℕ)) (ks
 tries_again zero old new opened ks same has = (ks, subst (λ (t : TableView). HasTried t opened ks) (sym same) has)
 tries_again (suc n) old new opened ks tries has = let next = tries.1.tries opened ks has in tries_again n tries.0 new opened (ks ++ next.0 ∷ []) tries.2 next.1
 
-order_kept : (new old : TableView) → KeepsTable old new → new.tree.order ≡ old.tree.order
+order_kept : (new old : TableView) → KeepsUnclosed old new → new.tree.order ≡ old.tree.order
 order_kept new old kept = λ i. (kept.tree i).order
 
 made_of : (order : ℕ) (limits : Bounds) (t : TableView) → MakesPages order limits t → t.tree.order ≡ order
@@ -129,45 +129,45 @@ again_same (suc n) old new tries =
 
 -- and the file that is left the order of its tree
 of_order : (order : ℕ) (made now last : TableView) (n : ℕ) (j : JournalView) → made.tree.order ≡ order → made.pages.steady ≡ true
-    → origin_of (Paged now) ≡ origin_of (Paged made) → IsTriedAgain n now last → Settles last j
-    → (last.tree.order ≡ order) × IsClosed 2 (pages_of j) 0 last.tree (table_contents now)
+    → origin_in (Paged now) ≡ origin_in (Paged made) → IsTriedAgain n now last → Settles last j
+    → (last.tree.order ≡ order) × IsClosed 2 (pages_after j) 0 last.tree (table_contents now)
 of_order order made now last n j is steady same tries settles =
     let tried = again_same n now last tries in
     let origin : table_origin now ≡ table_origin made = ap (λ (o : Option Origin). unwrap_or o (table_origin now)) same in (
       tried.0 ∙ ap (λ (o : Origin). o.order) origin ∙ is,
-      subst (λ (m : Contents). IsClosed 2 (pages_of j) 0 last.tree m) tried.1 (settles.closed (tried.2 ∙ ap (λ (o : Origin). o.steady) origin ∙ steady)),
+      subst (λ (m : Contents). IsClosed 2 (pages_after j) 0 last.tree m) tried.1 (settles.closed (tried.2 ∙ ap (λ (o : Origin). o.steady) origin ∙ steady)),
     )
 
 pub opened_order : (pages : List (List ℕ)) (limits : Bounds) (made now last : TableView) (n : ℕ) (j : JournalView) → OpensPages pages limits made
-    → origin_of (Paged now) ≡ origin_of (Paged made) → IsTriedAgain n now last → Settles last j
-    → (last.tree.order ≡ made.tree.order) × IsClosed 2 (pages_of j) 0 last.tree (table_contents now)
+    → origin_in (Paged now) ≡ origin_in (Paged made) → IsTriedAgain n now last → Settles last j
+    → (last.tree.order ≡ made.tree.order) × IsClosed 2 (pages_after j) 0 last.tree (table_contents now)
 opened_order pages limits made now last n j opens = of_order made.tree.order made now last n j refl opens.steady
 
 pub made_order : (order : ℕ) (limits : Bounds) (made now last : TableView) (n : ℕ) (j : JournalView) → MakesPages order limits made
-    → origin_of (Paged now) ≡ origin_of (Paged made) → IsTriedAgain n now last → Settles last j
-    → (last.tree.order ≡ order) × IsClosed 2 (pages_of j) 0 last.tree (table_contents now)
+    → origin_in (Paged now) ≡ origin_in (Paged made) → IsTriedAgain n now last → Settles last j
+    → (last.tree.order ≡ order) × IsClosed 2 (pages_after j) 0 last.tree (table_contents now)
 made_order order limits made now last n j makes = of_order order made now last n j (made_of order limits made makes) makes.steady
 
 -- from the pages of a new file or of an opened one to the steps that are handed out
 from_pages : (pages : List (List ℕ)) (made now last : TableView) (n : ℕ) (j : JournalView) → HasNoStep made pages → IsNewOrFile pages
-    → origin_of (Paged now) ≡ origin_of (Paged made) → IsTriedAgain n now last → Settles last j
-    → (j.opened ≡ pages) × ((k : ℕ) → IsEither pages (pages_of j) (carried pages (take k j.steps)))
+    → origin_in (Paged now) ≡ origin_in (Paged made) → IsTriedAgain n now last → Settles last j
+    → (j.opened ≡ pages) × ((k : ℕ) → IsEither pages (pages_after j) (carried pages (take k j.steps)))
 from_pages pages made now last n j none file same tries settles =
     let has = tries_again n now last pages [] tries (none_tried now pages (ap (λ (o : Option Origin). untouched (journal_in o)) same ∙ none)) in
     let is = settles.opened pages has.0 has.1 in (
       is,
-      λ k. subst (λ (ps : List (List ℕ)). IsEither ps (pages_of j) (carried ps (take k j.steps))) is
+      λ k. subst (λ (ps : List (List ℕ)). IsEither ps (pages_after j) (carried ps (take k j.steps))) is
           (settles.fronts has.0 (subst (λ (ps : List (List ℕ)). HasTried last ps has.0) (sym is) has.1) (subst IsNewOrFile (sym is) file) k),
     )
 
 pub handed_in : (pages : List (List ℕ)) (limits : Bounds) (made now last : TableView) (n : ℕ) (j : JournalView) → OpensPages pages limits made
-    → origin_of (Paged now) ≡ origin_of (Paged made) → IsTriedAgain n now last → Settles last j
-    → (j.opened ≡ pages) × ((k : ℕ) → IsEither pages (pages_of j) (carried pages (take k j.steps)))
+    → origin_in (Paged now) ≡ origin_in (Paged made) → IsTriedAgain n now last → Settles last j
+    → (j.opened ≡ pages) × ((k : ℕ) → IsEither pages (pages_after j) (carried pages (take k j.steps)))
 handed_in pages limits made now last n j opens =
     from_pages pages made now last n j opens.steps
     (inr (record { h = opens.opens.h; tree = made.tree; es = opens.opens.es; us = opens.opens.us; clean = opens.opens.clean }))
 
 pub newly_made : (order : ℕ) (limits : Bounds) (made now last : TableView) (n : ℕ) (j : JournalView) → MakesPages order limits made
-    → origin_of (Paged now) ≡ origin_of (Paged made) → IsTriedAgain n now last → Settles last j
-    → (j.opened ≡ []) × ((k : ℕ) → IsEither [] (pages_of j) (carried [] (take k j.steps)))
+    → origin_in (Paged now) ≡ origin_in (Paged made) → IsTriedAgain n now last → Settles last j
+    → (j.opened ≡ []) × ((k : ℕ) → IsEither [] (pages_after j) (carried [] (take k j.steps)))
 newly_made order limits made now last n j makes = from_pages [] made now last n j makes.steps (inl refl)

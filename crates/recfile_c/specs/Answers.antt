@@ -19,9 +19,9 @@ abbrev pub number_in : {E : Type 0} → Result ℕ E → ℕ
 number_in (Ok n) = n
 number_in (Err fault) = 0
 
-abbrev pub tx_in : {E : Type 0} → Result TxId E → ℕ
-tx_in (Ok t) = t.0
-tx_in (Err fault) = 0
+abbrev pub begun_in : {E : Type 0} → Result TxId E → ℕ
+begun_in (Ok t) = t.0
+begun_in (Err fault) = 0
 
 abbrev pub TellsStatus : Result Status StatusFault → TxStatus → Type 0
 TellsStatus (Ok status) told = status_shown told ≡ status

@@ -28,8 +28,8 @@ use Rattle.recfile_c.specs.declared.held.Held.TheVariants.{Open}
 use Rattle.recfile_c.specs.declared.held.Session.{Session}
 use Rattle.recfile_c.specs.declared.outcome.Outcome.{Outcome}
 use Rattle.recfile_c.specs.declared.shown.TxStatus.{TxStatus}
-use Rattle.recfile_c.specs.FileTables.{contents_of, is_sound, failures_of, refusals_of, origin_of}
-use Rattle.recfile_c.specs.Answers.{found_in, taken_in, number_in, tx_in, TellsStatus}
+use Rattle.recfile_c.specs.FileTables.{contents_in, is_sound, failures_in, refusals_in, origin_in}
+use Rattle.recfile_c.specs.Answers.{found_in, taken_in, number_in, begun_in, TellsStatus}
 use Rattle.record_file.specs.Refusals.{begin_refusal, put_refusal, claim_refusal, remove_refusal, get_refusal, savepoint_refusal, release_refusal, rollback_refusal, abort_refusal, resume_refusal, commit_refusal, status_refusal}
 use Rattle.recfile_c.specs.Outcomes.{just, empty_key, long_key, long_record, ok, outcome_by}
 
@@ -54,23 +54,23 @@ InFile step old new = step old.file new.file × (new ≡ record old { file = new
 
 -- over a sound table, while its failures and refusals can be counted
 abbrev pub Sure : FileState → Type 0 → Type 0
-Sure old says = IsTrue (is_sound old.table) → failures_of old.table < greatest_count → refusals_of old.table < greatest_count → says
+Sure old says = IsTrue (is_sound old.table) → failures_in old.table < greatest_count → refusals_in old.table < greatest_count → says
 
 -- whether the device failed between the two
 abbrev pub failed : FileState → FileState → Bool
-failed old new = rose (failures_of old.table) (failures_of new.table)
+failed old new = rose (failures_in old.table) (failures_in new.table)
 
 -- whether memory was refused between the two
 abbrev pub refused : FileState → FileState → Bool
-refused old new = rose (refusals_of old.table) (refusals_of new.table)
+refused old new = rose (refusals_in old.table) (refusals_in new.table)
 
 -- the table is as sound as before, over the same pages that were handed in
 abbrev pub SameGround : FileState → FileState → Type 0
-SameGround old new = (is_sound new.table ≡ is_sound old.table) × (origin_of new.table ≡ origin_of old.table)
+SameGround old new = (is_sound new.table ≡ is_sound old.table) × (origin_in new.table ≡ origin_in old.table)
 
 -- the same, and the log tells what became of the table's records
-abbrev pub Keeps : FileState → FileState → Type 0
-Keeps old new = SameGround old new × Tells (is_sound old.table) (contents_of old.table) old.log (contents_of new.table) new.log
+abbrev pub KeepsFileState : FileState → FileState → Type 0
+KeepsFileState old new = SameGround old new × Tells (is_sound old.table) (contents_in old.table) old.log (contents_in new.table) new.log
 
 -- neither the table nor the log is touched
 abbrev pub Spares : FileState → FileState → Type 0
@@ -80,13 +80,13 @@ Spares old new = (new.table ≡ old.table) × (new.log ≡ old.log)
 
 abbrev pub Begin : ℤ → ℕ → FileState → FileState → Type 0
 Begin status tx old new =
-    (answer : Result TxId BeginFault) × (status ≡ (outcome_by begin_refusal answer).status) × (tx ≡ tx_in answer)
+    (answer : Result TxId BeginFault) × (status ≡ (outcome_by begin_refusal answer).status) × (tx ≡ begun_in answer)
     × BeginStep old.file answer new.file × Spares old new
 
 abbrev pub Put : TxId → List ℕ → List ℕ → Outcome → Option (List ℕ) → FileState → FileState → Type 0
 Put t x r told before old new =
     (answer : Result (Option (List ℕ)) PutFault) × (told ≡ outcome_by put_refusal answer) × (before ≡ found_in answer)
-    × Sure old (PutStep old.file t.0 x r (failed old new) answer new.file) × Keeps old new
+    × Sure old (PutStep old.file t.0 x r (failed old new) answer new.file) × KeepsFileState old new
 
 -- bytes that are no key, and bytes that are no record
 abbrev pub PutBytes : TxId → Result (List ℕ) KeyFault → Result (List ℕ) RecordFault → Outcome → Option (List ℕ) → FileState → FileState → Type 0
@@ -98,7 +98,7 @@ PutBytes t (Ok x) (Ok r) told before old new = Put t x r told before old new
 abbrev pub Claim : TxId → List ℕ → Outcome → Option (List ℕ) → FileState → FileState → Type 0
 Claim t x told seen old new =
     (answer : Result (Option (List ℕ)) ClaimFault) × (told ≡ outcome_by claim_refusal answer) × (seen ≡ found_in answer)
-    × Sure old (ClaimStep old.file t.0 x (failed old new) answer new.file) × Keeps old new
+    × Sure old (ClaimStep old.file t.0 x (failed old new) answer new.file) × KeepsFileState old new
 
 abbrev pub ClaimBytes : TxId → Result (List ℕ) KeyFault → Outcome → Option (List ℕ) → FileState → FileState → Type 0
 ClaimBytes t (Err Empty) told seen old new = (told ≡ just empty_key) × (seen ≡ None) × (new ≡ old)
@@ -108,7 +108,7 @@ ClaimBytes t (Ok x) told seen old new = Claim t x told seen old new
 abbrev pub Remove : TxId → List ℕ → Outcome → Option (List ℕ) → FileState → FileState → Type 0
 Remove t x told taken old new =
     (answer : Result (List ℕ) RemoveFault) × (told ≡ outcome_by remove_refusal answer) × (taken ≡ taken_in answer)
-    × Sure old (RemoveStep old.file t.0 x (failed old new) answer new.file) × Keeps old new
+    × Sure old (RemoveStep old.file t.0 x (failed old new) answer new.file) × KeepsFileState old new
 
 abbrev pub RemoveBytes : TxId → Result (List ℕ) KeyFault → Outcome → Option (List ℕ) → FileState → FileState → Type 0
 RemoveBytes t (Err Empty) told taken old new = (told ≡ just empty_key) × (taken ≡ None) × (new ≡ old)
@@ -119,7 +119,7 @@ abbrev pub Get : TxId → List ℕ → Outcome → Option (List ℕ) → FileSta
 Get t x told found old new =
     (answer : Result (Option (List ℕ)) GetFault) × (told ≡ outcome_by get_refusal answer) × (found ≡ found_in answer)
     × Sure old (GetStep old.file t.0 x (failed old new) answer new.file)
-    × SameGround old new × (contents_of new.table ≡ contents_of old.table) × (new.log ≡ old.log)
+    × SameGround old new × (contents_in new.table ≡ contents_in old.table) × (new.log ≡ old.log)
 
 abbrev pub GetBytes : TxId → Result (List ℕ) KeyFault → Outcome → Option (List ℕ) → FileState → FileState → Type 0
 GetBytes t (Err Empty) told found old new = (told ≡ just empty_key) × (found ≡ None) × (new ≡ old)
@@ -139,17 +139,17 @@ Release t n status old new =
 abbrev pub RollbackTo : TxId → ℕ → Outcome → ℕ → FileState → FileState → Type 0
 RollbackTo t n told undone old new =
     (answer : Result ℕ RollbackToFault) × (told ≡ outcome_by rollback_refusal answer) × (undone ≡ number_in answer)
-    × Sure old (RollbackToStep old.file t.0 n (failed old new) (refused old new) answer new.file) × Keeps old new
+    × Sure old (RollbackToStep old.file t.0 n (failed old new) (refused old new) answer new.file) × KeepsFileState old new
 
 abbrev pub Abort : TxId → Outcome → ℕ → FileState → FileState → Type 0
 Abort t told undone old new =
     (answer : Result ℕ AbortFault) × (told ≡ outcome_by abort_refusal answer) × (undone ≡ number_in answer)
-    × Sure old (AbortStep old.file t.0 (failed old new) (refused old new) answer new.file) × Keeps old new
+    × Sure old (AbortStep old.file t.0 (failed old new) (refused old new) answer new.file) × KeepsFileState old new
 
 abbrev pub Resume : TxId → Outcome → ℕ → FileState → FileState → Type 0
 Resume t told undone old new =
     (answer : Result ℕ ResumeFault) × (told ≡ outcome_by resume_refusal answer) × (undone ≡ number_in answer)
-    × Sure old (ResumeStep old.file t.0 (failed old new) (refused old new) answer new.file) × Keeps old new
+    × Sure old (ResumeStep old.file t.0 (failed old new) (refused old new) answer new.file) × KeepsFileState old new
 
 abbrev pub Commit : TxId → ℤ → FileState → FileState → Type 0
 Commit t status old new =

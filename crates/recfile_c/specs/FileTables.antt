@@ -8,9 +8,9 @@ use Rattle.btree_delete.specs.TableView.{table_contents}
 use Rattle.recfile_c.specs.declared.file_table.FileTable.{FileTable}
 use Rattle.recfile_c.specs.declared.file_table.FileTable.TheVariants.{Memory, Paged}
 
-abbrev pub contents_of : FileTable → Contents
-contents_of (Memory table) = table.contents
-contents_of (Paged table) = table_contents table
+abbrev pub contents_in : FileTable → Contents
+contents_in (Memory table) = table.contents
+contents_in (Paged table) = table_contents table
 
 abbrev pub limit_of : FileTable → ℕ
 limit_of (Memory table) = table.limit
@@ -20,13 +20,13 @@ abbrev pub is_sound : FileTable → Bool
 is_sound (Memory table) = true
 is_sound (Paged table) = table.pages.steady
 
-abbrev pub failures_of : FileTable → ℕ
-failures_of (Memory table) = 0
-failures_of (Paged table) = table.pages.failures
+abbrev pub failures_in : FileTable → ℕ
+failures_in (Memory table) = 0
+failures_in (Paged table) = table.pages.failures
 
-abbrev pub refusals_of : FileTable → ℕ
-refusals_of (Memory table) = table.refusals
-refusals_of (Paged table) = table.refusals
+abbrev pub refusals_in : FileTable → ℕ
+refusals_in (Memory table) = table.refusals
+refusals_in (Paged table) = table.refusals
 
 abbrev pub damages_of : FileTable → Damages
 damages_of (Memory table) = no_damage
@@ -37,6 +37,6 @@ calls_of (Memory table) = table.calls
 calls_of (Paged table) = table.calls
 
 -- what a table in pages was made of
-abbrev pub origin_of : FileTable → Option Origin
-origin_of (Memory table) = None
-origin_of (Paged table) = Some (table_origin table)
+abbrev pub origin_in : FileTable → Option Origin
+origin_in (Memory table) = None
+origin_in (Paged table) = Some (table_origin table)

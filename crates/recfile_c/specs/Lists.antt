@@ -8,8 +8,8 @@ use Rattle.record_file.specs.declared.fault.KeysOfFault.{KeysOfFault}
 use Rattle.recfile_c.specs.declared.held.Session.{Session}
 use Rattle.recfile_c.specs.declared.outcome.Outcome.{Outcome}
 use Rattle.recfile_c.specs.declared.shown.ListedEntry.{ListedEntry}
-use Rattle.recfile_c.specs.FileTables.{contents_of}
-use Rattle.recfile_c.specs.Shown.{Shows, IsNoEntry}
+use Rattle.recfile_c.specs.FileTables.{contents_in}
+use Rattle.recfile_c.specs.Shown.{ShowsEntry, IsNoEntry}
 use Rattle.record_file.specs.Refusals.{entries_refusal, keys_of_refusal}
 use Rattle.recfile_c.specs.Outcomes.{ok, no_such_entry, outcome_by}
 use Rattle.recfile_c.specs.Calls.{Sure, SameGround, failed}
@@ -24,7 +24,7 @@ abbrev pub ListsEntries : Outcome → ℕ → Session → Session → Type 0
 ListsEntries told n old new =
     (answer : Result (List Entry) EntriesFault) × (told ≡ outcome_by entries_refusal answer) × (n ≡ length (list_in answer))
     × Sure old.file (EntriesStep old.file.file (failed old.file new.file) answer new.file.file)
-    × SameGround old.file new.file × (contents_of new.file.table ≡ contents_of old.file.table)
+    × SameGround old.file new.file × (contents_in new.file.table ≡ contents_in old.file.table)
     × (new.file.log ≡ old.file.log) × (new.entries.items ≡ list_in answer) × (new.keys ≡ old.keys)
 
 -- the keys of a transaction are listed, and the list is kept; the records listed last stay
@@ -36,7 +36,7 @@ ListsKeys t status n old new =
 
 -- the i-th entry of the list, from 0, where there is one
 abbrev pub ShowsAt : Option Entry → ℤ → ListedEntry → Type 0
-ShowsAt (Some e) status told = (status ≡ pos ok) × Shows told e
+ShowsAt (Some e) status told = (status ≡ pos ok) × ShowsEntry told e
 ShowsAt None status told = (status ≡ pos no_such_entry) × IsNoEntry told
 
 abbrev pub EntryAt : ℕ → ℤ → ListedEntry → Session → Session → Type 0

@@ -24,7 +24,7 @@ use Rattle.recfile_c.specs.declared.outcome.Outcome.{Outcome}
 use Rattle.page_store.specs.declared.step.Step.{Step}
 use Rattle.recfile_c.specs.declared.shown.StepShown.{StepShown}
 use Rattle.recfile_c.specs.Shown.{step_shown, page_left, no_step}
-use Rattle.recfile_c.specs.Steps.{JournalView, pages_of, journal_of}
+use Rattle.recfile_c.specs.Steps.{JournalView, pages_after, journal_of}
 use Rattle.recfile_c.specs.Outcomes.{just, ok, closed, memory, not_closed, no_such_entry, bad_length, limits_outcome, open_outcome, create_outcome, still_open_by}
 use Rattle.recfile_c.specs.Calls.{FileState}
 use Rattle.recfile_c.specs.Opening.{IsOpened}
@@ -129,14 +129,14 @@ TakesImage None None = Unit {0}
 -- none, or those of tries to close the same table, the steps are to be carried out on the pages that were handed in; and over a
 -- new file or a closed one each front of them leads to the old file, or to one that opening refuses, or to the new one.
 pub record Settles (t : TableView) (j : JournalView) : Type 0 where
-  pub closed : IsTrue t.pages.steady → IsClosed second_version (pages_of j) 0 t.tree (table_contents t)
-  pub idle : t.pages.changed ≡ false → pages_of j ≡ t.pages.stored
+  pub closed : IsTrue t.pages.steady → IsClosed second_version (pages_after j) 0 t.tree (table_contents t)
+  pub idle : t.pages.changed ≡ false → pages_after j ≡ t.pages.stored
   pub steps : journal_of j ≡ noted t.pages.journal (closing t)
   pub opened : (opened : List (List ℕ)) (ks : List ℕ) → HasTried t opened ks → j.opened ≡ opened
-  pub fronts : (ks : List ℕ) → HasTried t j.opened ks → IsNewOrFile j.opened → (k : ℕ) → IsEither j.opened (pages_of j) (carried j.opened (take k j.steps))
+  pub fronts : (ks : List ℕ) → HasTried t j.opened ks → IsNewOrFile j.opened → (k : ℕ) → IsEither j.opened (pages_after j) (carried j.opened (take k j.steps))
 
 -- a table whose closing found no memory has its tree and its records, and the first of its steps were kept: one more try
-pub record KeepsTable (old new : TableView) : Type 0 where
+pub record KeepsUnclosed (old new : TableView) : Type 0 where
   pub tree : new.tree ≡ old.tree
   pub contents : table_contents new ≡ table_contents old
   pub steady : new.pages.steady ≡ old.pages.steady
@@ -146,11 +146,11 @@ pub record KeepsTable (old new : TableView) : Type 0 where
 -- so many closes that found no memory
 abbrev pub IsTriedAgain : ℕ → TableView → TableView → Type 0
 IsTriedAgain zero old new = new ≡ old
-IsTriedAgain (suc n) old new = (mid : TableView) × KeepsTable old mid × IsTriedAgain n mid new
+IsTriedAgain (suc n) old new = (mid : TableView) × KeepsUnclosed old mid × IsTriedAgain n mid new
 
 abbrev pub ClosesTable : Outcome → TableView → Held → Type 0
 ClosesTable told t (Closed j) = (told ≡ just ok) × Settles t j
-ClosesTable told t (Unclosed u) = (told ≡ just memory) × KeepsTable t u
+ClosesTable told t (Unclosed u) = (told ≡ just memory) × KeepsUnclosed t u
 ClosesTable told t held = ⊥
 
 -- a file in memory leaves nothing to be done

@@ -55,8 +55,8 @@ abbrev pub no_status : TxStatus
 no_status = record { is_rolling = 0; ends = 0; saves = 0; live = 0; left = 0 }
 
 -- what is shown is the entry: a record at its key, with the transaction that owns the key where one does
-abbrev pub Shows : ListedEntry → Entry → Type 0
-Shows told e =
+abbrev pub ShowsEntry : ListedEntry → Entry → Type 0
+ShowsEntry told e =
     (key_shown told.key ≡ e.key) × (shown told.value ≡ Some e.value)
     × ((if told.is_owned == 0 then None else Some (tx_shown told.owner)) ≡ e.owner)
 

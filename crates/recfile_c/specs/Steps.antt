@@ -14,8 +14,8 @@ pub record JournalView : Type 0 where
   pub failures : ℕ
 
 -- the pages that the steps leave
-abbrev pub pages_of : JournalView → List (List ℕ)
-pages_of j = carried j.opened j.steps
+abbrev pub pages_after : JournalView → List (List ℕ)
+pages_after j = carried j.opened j.steps
 
 -- its journal as a store
 abbrev pub journal_of : JournalView → Option Journal

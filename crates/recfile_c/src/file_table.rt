@@ -12,17 +12,17 @@ pub enum FileTable {
 impl TableState for FileTable {
     ghost use Rattle.std.specs.Prelude.{Option, []};
     ghost use Rattle.btree_delete.specs.Origins.{Origin};
-    ghost use Rattle.recfile_c.specs.FileTables.{contents_of, limit_of, is_sound, failures_of, refusals_of, damages_of, calls_of, origin_of};
+    ghost use Rattle.recfile_c.specs.FileTables.{contents_in, limit_of, is_sound, failures_in, refusals_in, damages_of, calls_of, origin_in};
 
-    ghost contents = { contents_of };
+    ghost contents = { contents_in };
 
     ghost record_limit = { limit_of };
 
     ghost sound = { is_sound };
 
-    ghost device_failures = { failures_of };
+    ghost device_failures = { failures_in };
 
-    ghost memory_refusals = { refusals_of };
+    ghost memory_refusals = { refusals_in };
 
     ghost damages = { damages_of };
 
@@ -30,7 +30,7 @@ impl TableState for FileTable {
 
     ghost Source = { Option Origin };
 
-    ghost origin = { origin_of };
+    ghost origin = { origin_in };
 
     ghost commits = { λ _. [] };
 

@@ -3,7 +3,7 @@ ghost use Rattle.std.specs.Prelude.{◌≡◌, ◌≢◌, ℕ, ◌<◌, ◌≤�
 ghost use Rattle.rec_types.specs.Table.{counted};
 ghost use Rattle.page_store.specs.Blank.{blank};
 ghost use Rattle.page_store.specs.Journal.{carry, carried};
-ghost use Rattle.recfile_c.specs.Steps.{pages_of};
+ghost use Rattle.recfile_c.specs.Steps.{pages_after};
 
 use page_store::{Shape, Step, Store, StoreFault, StoreState};
 use rec_types::PAGE_WIDTH;
@@ -125,7 +125,7 @@ impl JournalStore {
 
     // One more step. Fault: Failed, where it finds no memory.
     fn note(&mut self, step: Step, count: u64) -> Result<(), StoreFault>
-        requires { count ≡ length (carry (pages_of self.old) step) }
+        requires { count ≡ length (carry (pages_after self.old) step) }
         ensures ok { OnOk result (self.new ≡ record self.old {
           steps = self.old.steps ++ step ∷ [];
           writes = counted self.old.writes true;
@@ -134,8 +134,8 @@ impl JournalStore {
           writes = counted self.old.writes true;
           failures = counted self.old.failures true;
         }) }
-        ensures carried { OnOk result (pages_of self.new ≡ carry (pages_of self.old) step) }
-        ensures same { OnErr result (pages_of self.new ≡ pages_of self.old) }
+        ensures carried { OnOk result (pages_after self.new ≡ carry (pages_after self.old) step) }
+        ensures same { OnErr result (pages_after self.new ≡ pages_after self.old) }
         ensures no_memory { result ≢ Err StoreFault.Memory }
     {
         self.writes = self.writes.saturating_add(1);
@@ -156,9 +156,9 @@ impl StoreState for JournalStore {
     ghost use Rattle.std.specs.Prelude.{true};
     ghost use Rattle.page_store.specs.Opening.{untold};
     ghost use Rattle.page_store.specs.Guards.{Unguarded};
-    ghost use Rattle.recfile_c.specs.Steps.{pages_of, journal_of};
+    ghost use Rattle.recfile_c.specs.Steps.{pages_after, journal_of};
 
-    ghost pages = { pages_of };
+    ghost pages = { pages_after };
 
     ghost tail = { λ _. 0 };
 

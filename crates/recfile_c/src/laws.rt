@@ -11,10 +11,10 @@ ghost use Rattle.page_store.specs.Fronts.{two_pages, page_1_written};
 ghost use Rattle.page_store.specs.Journal.{carried};
 ghost use Rattle.page_store.specs.declared.step.Step.{Step};
 ghost use Rattle.rec_types.specs.LimitBounds.{Bounds};
-ghost use Rattle.recfile_c.specs.FileTables.{origin_of};
+ghost use Rattle.recfile_c.specs.FileTables.{origin_in};
 ghost use Rattle.recfile_c.specs.Paged.{OpensPages, MakesPages, HasTried, IsTriedAgain, Settles};
 ghost use Rattle.recfile_c.specs.declared.file_table.FileTable.TheVariants.{Paged};
-ghost use Rattle.recfile_c.specs.Steps.{JournalView, pages_of, page_1_left_out, written_before_longer, longer_before_written};
+ghost use Rattle.recfile_c.specs.Steps.{JournalView, pages_after, page_1_left_out, written_before_longer, longer_before_written};
 ghost use Rattle.recfile_c.specs.Tried.{table_over, changed_table, made_longer, made_too_long, written_unmarked, kept_first};
 
 /// A close may leave one list of steps over one list of pages: with another order of the steps, or with
@@ -31,9 +31,9 @@ pub fn one_list_of_steps()
 pub fn steps_are_for_the_pages_handed_in()
     ensures { (pages : List (List ℕ)) (limits : Bounds) (made now last : TableView) (n : ℕ)
         → (j : JournalView) → OpensPages pages limits made
-        → origin_of (Paged now) ≡ origin_of (Paged made) → IsTriedAgain n now last → Settles last j
+        → origin_in (Paged now) ≡ origin_in (Paged made) → IsTriedAgain n now last → Settles last j
         → (j.opened ≡ pages)
-        × ((k : ℕ) → IsEither pages (pages_of j) (carried pages (take k j.steps))) }
+        × ((k : ℕ) → IsEither pages (pages_after j) (carried pages (take k j.steps))) }
 {}
 
 /// The pages that the steps write were kept beside the file first, as they were handed in. Then, whatever a crash makes of
@@ -41,7 +41,7 @@ pub fn steps_are_for_the_pages_handed_in()
 pub fn pages_handed_in_are_put_back()
     ensures { (pages : List (List ℕ)) (limits : Bounds) (made now last : TableView) (n : ℕ)
         → (j : JournalView) → OpensPages pages limits made
-        → origin_of (Paged now) ≡ origin_of (Paged made) → IsTriedAgain n now last → Settles last j
+        → origin_in (Paged now) ≡ origin_in (Paged made) → IsTriedAgain n now last → Settles last j
         → (kept : Kept) (left : List (List ℕ)) → Gathered pages kept
         → All (WritesKept kept) j.steps → LeavesOf j.steps j.opened left
         → restored kept left ≡ record { pages = pages; tail = 0 } }
@@ -52,9 +52,9 @@ pub fn pages_handed_in_are_put_back()
 pub fn steps_of_a_new_file_are_for_no_page()
     ensures { (order : ℕ) (limits : Bounds) (made now last : TableView) (n : ℕ)
         → (j : JournalView)
-        → MakesPages order limits made → origin_of (Paged now) ≡ origin_of (Paged made)
+        → MakesPages order limits made → origin_in (Paged now) ≡ origin_in (Paged made)
         → IsTriedAgain n now last → Settles last j → (j.opened ≡ [])
-        × ((k : ℕ) → IsEither [] (pages_of j) (carried [] (take k j.steps))) }
+        × ((k : ℕ) → IsEither [] (pages_after j) (carried [] (take k j.steps))) }
 {}
 
 /// A file keeps its order: it was opened or made, calls were made, each of which keeps what its table was made of, and it was
@@ -63,14 +63,14 @@ pub fn steps_of_a_new_file_are_for_no_page()
 pub fn the_order_stays()
     ensures opened { (pages : List (List ℕ)) (limits : Bounds) (made now last : TableView) (n : ℕ)
         → (j : JournalView) → OpensPages pages limits made
-        → origin_of (Paged now) ≡ origin_of (Paged made) → IsTriedAgain n now last → Settles last j
+        → origin_in (Paged now) ≡ origin_in (Paged made) → IsTriedAgain n now last → Settles last j
         → (last.tree.order ≡ made.tree.order)
-        × IsClosed second_version (pages_of j) 0 last.tree (table_contents now) }
+        × IsClosed second_version (pages_after j) 0 last.tree (table_contents now) }
     ensures made { (order : ℕ) (limits : Bounds) (made now last : TableView) (n : ℕ)
         → (j : JournalView) → MakesPages order limits made
-        → origin_of (Paged now) ≡ origin_of (Paged made) → IsTriedAgain n now last → Settles last j
+        → origin_in (Paged now) ≡ origin_in (Paged made) → IsTriedAgain n now last → Settles last j
         → (last.tree.order ≡ order)
-        × IsClosed second_version (pages_of j) 0 last.tree (table_contents now) }
+        × IsClosed second_version (pages_after j) 0 last.tree (table_contents now) }
 {}
 
 /// Steps are carried out in their order. Of two pages page 0 and page 1 are written. It fails where the

@@ -155,7 +155,7 @@ impl From<&Option<Record>> for Found {
 }
 
 impl Found {
-    // Shows a record in the place of what was shown.
+    // ShowsEntry a record in the place of what was shown.
     fn show(&mut self, value: &Record)
         ensures { shown self.new ≡ Some value.now }
     {
@@ -165,7 +165,7 @@ impl Found {
         self.is_there = 1;
     }
 
-    /// Shows the record that an answer found, where nothing was shown.
+    /// ShowsEntry the record that an answer found, where nothing was shown.
     pub(crate) fn show_found<E>(&mut self, answer: &Result<Option<Record>, E>)
         requires { shown self.old ≡ None }
         ensures { shown self.new ≡ found_in answer.now }
@@ -175,7 +175,7 @@ impl Found {
         }
     }
 
-    /// Shows the record that an answer took out, where nothing was shown.
+    /// ShowsEntry the record that an answer took out, where nothing was shown.
     pub(crate) fn show_taken<E>(&mut self, answer: &Result<Record, E>)
         requires { shown self.old ≡ None }
         ensures { shown self.new ≡ taken_in answer.now }
@@ -383,9 +383,9 @@ impl Default for ListedEntry {
 }
 
 impl From<&Entry> for ListedEntry {
-    ghost use Rattle.recfile_c.specs.Shown.{Shows};
+    ghost use Rattle.recfile_c.specs.Shown.{ShowsEntry};
 
-    ghost from_gives = { λ entry told. Shows told entry.now };
+    ghost from_gives = { λ entry told. ShowsEntry told entry.now };
 
     /// An entry.
     fn from(entry: &Entry) -> ListedEntry {

@@ -1,6 +1,6 @@
 // Transactions, from C.
 ghost use Rattle.std.specs.Prelude.{◌≡◌, pos};
-ghost use Rattle.recfile_c.specs.Answers.{number_in, tx_in, IsStatusOf};
+ghost use Rattle.recfile_c.specs.Answers.{number_in, begun_in, IsStatusOf};
 ghost use Rattle.recfile_c.specs.Shown.{tx_shown};
 ghost use Rattle.recfile_c.specs.Outcomes.{just, closed};
 ghost use Rattle.recfile_c.specs.Calls.{OnHandle, OnSession, InFile, Begin, Savepoint, Release, RollbackTo, Abort, Resume, Commit};
@@ -21,7 +21,7 @@ fn number_in<E>(answer: &Result<u32, E>) -> u32
 
 // The transaction that was begun, and else 0.
 fn tx_in(answer: &Result<TxId, BeginFault>) -> u32
-    ensures { result ≡ tx_in answer.now }
+    ensures { result ≡ begun_in answer.now }
 {
     answer.as_ref().map_or(0, |tx| tx.0)
 }

@@ -6,7 +6,7 @@ use Rattle.page_journal.specs.Crash.{StandsFor}
 use Rattle.page_journal.specs.Files.{PageFile, recovered}
 use Rattle.page_journal.specs.Logging.{SaysNoneOr}
 use Rattle.page_journal.specs.KeptStores.{KeptStored}
-use Rattle.recfile.specs.Kept.{file_of}
+use Rattle.recfile.specs.Kept.{opening_file}
 use Rattle.recfile.specs.LogOver.{head_line}
 use Rattle.recfile.proofs.durable.begin_beside.Given as given
 use Rattle.recfile.proofs.durable.begin_beside.Goals as goal
@@ -36,7 +36,7 @@ returns-in-Ok-begin_commits-clause-begun g c steady =
     let d = g.D.DiskState in
     let stays = c.head_of.ensures.stays in
     let new = c.in-Ok-begin_commits.store in
-    let file : recovered (d.began new.disk) ≡ recovered (d.began c.args.store.disk) = ap recovered c.in-Ok-begin_commits.ensures.began ∙ ap file_of stays.opening in
+    let file : recovered (d.began new.disk) ≡ recovered (d.began c.args.store.disk) = ap recovered c.in-Ok-begin_commits.ensures.began ∙ ap opening_file stays.opening in
     record {
       logged = search rules;
       commits = c.in-Ok-begin_commits.ensures.says (stays.steady ∙ steady) (c.in-Ok.head.items ∷ []) c.in-Ok.ensures.unit (spelt g here) ∙ ap (λ (line : List ℕ). (line ∷ []) ∷ []) (head g here steady ∙ ap head_line (sym file));
@@ -47,6 +47,6 @@ pub returns-clause-stopped : goal.returns-clause-stopped
 returns-clause-stopped g c steady left since =
     let here = (goal.at.returns-clause-stopped g c).After-deref in
     let stays = c.head_of.ensures.stays in
-    let file = ap file_of stays.opening in
+    let file = ap opening_file stays.opening in
     subst (λ (x : PageFile × List ℕ). StandsFor x.0 left × SaysNoneOr ((x.1 ∷ []) ∷ []) left) (λ i. (file i, head g here steady i))
     (c.in-Err-begin_commits.ensures.stopped (stays.steady ∙ steady) (c.in-Ok.head.items ∷ []) c.in-Ok.ensures.unit (spelt g here) left since)

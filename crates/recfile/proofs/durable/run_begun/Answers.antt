@@ -10,7 +10,7 @@ use Rattle.page_journal.specs.KeptStores.{failures_with, opened_over}
 use Rattle.recfile.specs.Dumped.{IsFirstOrOutside, IsOutsideFile}
 use Rattle.recfile.specs.DurableSession.{EndsDurably, IsBegunBeside, LeavesUnread}
 use Rattle.recfile.specs.FileFaults.{is_device}
-use Rattle.recfile.specs.Kept.{CountsClosing, LeavesOld, file_of}
+use Rattle.recfile.specs.Kept.{CountsClosing, LeavesOld, opening_file}
 use Rattle.recfile.specs.LogOver.{HoldsWithin, head_line}
 use Rattle.recfile.specs.declared.file_fault.FileFault.{FileFault}
 use Rattle.recfile.proofs.ClosingCountLemmas.{device_of_opening, disk_counts, some_told, unsealed, unused_guard}
@@ -27,7 +27,7 @@ returns-in-Ok-clause-session g c steady order contents holds =
     let table = c.in-Ok.table in
     let opened = c.in-Ok.ensures.reopened steady holds.1 contents holds.0 holds.3 holds.4 in
     let order_is : table.tree.order ≡ order = ap (λ t. t.order) opened.0 ∙ holds.2 in
-    let file_is : file_of table.pages.opening ≡ (d.seen c.args.store.disk).main = ap (λ (o : Opening). file_of o) c.in-Ok.ensures.opening ∙ sym (c.requires.begun steady).0 in
+    let file_is : opening_file table.pages.opening ≡ (d.seen c.args.store.disk).main = ap (λ (o : Opening). opening_file o) c.in-Ok.ensures.opening ∙ sym (c.requires.begun steady).0 in
     let failures_are : table.pages.failures ≡ d.failures c.args.store.disk = c.in-Ok.ensures.stored.4 ∙ ap (failures_with (d.failures c.args.store.disk)) c.requires.unrefused in
     let ends = λ (x : ℕ × Contents × ℕ × PageFile). EndsDurably d c.args.manner (g.R.CountedRead.left c.args.reader.now) (g.R.CountedRead.left c.run_logged.new.reader) (g.W.CountedWrite.held c.args.out.now) (g.W.CountedWrite.held c.run_logged.new.out) c.args.calls.now c.run_logged.new.calls x.0 x.1 c.args.limits x.2 ((head_line x.3 ∷ []) ∷ []) c.run_logged.result.unclosed c.run_logged.result.status c.run_logged.result.disk in
     let within = subst (λ (x : ℕ × Contents × PageFile). HoldsWithin c.args.limits.records x.0 x.1 x.2) (λ i. (sym order_is i, sym opened.1 i, sym file_is i)) holds in
@@ -65,4 +65,4 @@ returns-in-Ok-clause-untouched g c steady =
 
 pub returns-in-Ok-clause-stopped : goal.returns-in-Ok-clause-stopped
 returns-in-Ok-clause-stopped g c steady four =
-    subst (λ (f : PageFile). LeavesOld g.D.DiskState f c.run_logged.result.disk) (ap (λ (o : Opening). file_of o) c.in-Ok.ensures.opening ∙ sym (c.requires.begun steady).0) (c.run_logged.ensures.stopped (c.in-Ok.ensures.stored.2 ∙ steady) four)
+    subst (λ (f : PageFile). LeavesOld g.D.DiskState f c.run_logged.result.disk) (ap (λ (o : Opening). opening_file o) c.in-Ok.ensures.opening ∙ sym (c.requires.begun steady).0) (c.run_logged.ensures.stopped (c.in-Ok.ensures.stored.2 ∙ steady) four)

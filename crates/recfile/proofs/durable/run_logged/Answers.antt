@@ -9,12 +9,12 @@ use Rattle.rec_types.specs.Contents.{Contents}
 use Rattle.rec_types.specs.LimitBounds.{most_records}
 use Rattle.recfile.specs.Beside.{IsSettledWith, LeavesEnded, LosesNone}
 use Rattle.recfile.specs.DurableSession.{IsBegunBeside, logged_file}
-use Rattle.recfile.specs.Kept.{LeavesOld, file_of}
+use Rattle.recfile.specs.Kept.{LeavesOld, opening_file}
 use Rattle.recfile.specs.LogOver.{head_line}
 use Rattle.recfile.specs.LogKeeping.{IsKeptBeside}
 use Rattle.recfile.specs.Overlaid.{writes_in_turn}
 use Rattle.recfile.specs.SessionCommits.{MakesCommits, in_doubt}
-use Rattle.recfile.specs.Statuses.{status_of}
+use Rattle.recfile.specs.Statuses.{exit_status_of}
 use Rattle.recfile.specs.WholeSession.{IsSession, IsUncounted}
 use Rattle.recfile.specs.declared.endings.EndFault.{EndFault}
 use Rattle.recfile.proofs.DurableLemmas.{DoubtIs, each_finds, ended_finds_all, opening_finds}
@@ -34,7 +34,7 @@ returns-in-Ok-clause-ran g c = (
     mid = c.run_session-end.ensures.session.0;
     new = seen_as true treed c.run_session-end.new.file;
     session = subst (λ e. IsSession c.args.manner (g.R.CountedRead.left c.args.reader.now) (g.R.CountedRead.left c.run_session-end.new.reader) (g.W.CountedWrite.held c.args.out.now) (g.W.CountedWrite.held c.run_session-end.new.out) (seen_as true treed c.new-file.result) c.run_session-end.ensures.session.0 c.run_session-end.result.script e (seen_as true treed c.run_session-end.new.file)) c.in-Ok.is c.run_session-end.ensures.session.1;
-    status_is = ap (λ e. e.status) c.close_logged.ensures.end ∙ ap (status_of false (is_some c.close_logged.result.unclosed)) c.is_err-script_fault.ensures.value;
+    status_is = ap (λ e. e.status) c.close_logged.ensures.end ∙ ap (exit_status_of false (is_some c.close_logged.result.unclosed)) c.is_err-script_fault.ensures.value;
     fault = c.close_logged.ensures.fault;
     untried = tt;
     failed = c.run_session-end.ensures.failed;
@@ -72,7 +72,7 @@ returns-in-Err-clause-stopped g c steady four =
 -- the session that was run over the file beside which a log was begun, with that end
 module _ (g : given.Over) (c : After-abandon-table g) (steady : IsTrue c.args.table.pages.steady) (uncounted : IsUncounted c.args.table) (begun : IsBegunBeside c.args.table.pages.opening) (ended : Result ℕ EndFault) (is : c.run_session-end.result.ended ≡ ended) where
   abbrev head : List (List (List ℕ))
-  head = (head_line (file_of c.args.table.pages.opening) ∷ []) ∷ []
+  head = (head_line (opening_file c.args.table.pages.opening) ∷ []) ∷ []
 
   session : IsSession c.args.manner (g.R.CountedRead.left c.args.reader.now) (g.R.CountedRead.left c.run_session-end.new.reader) (g.W.CountedWrite.held c.args.out.now) (g.W.CountedWrite.held c.run_session-end.new.out) (logged_file (table_contents c.args.table) c.args.limits c.args.table.pages.failures head) c.run_session-end.ensures.session.0 c.run_session-end.result.script ended (seen_as true treed c.run_session-end.new.file)
   session =
@@ -93,13 +93,13 @@ module _ (g : given.Over) (c : After-abandon-table g) (steady : IsTrue c.args.ta
   moves : IsKeptBeside c.args.table c.abandon-table.result
   moves = subst (λ (x : TableView × TableView). IsKeptBeside x.0 x.1) (λ i. (ap (λ (f : OpenFile TableView). f.table) c.new-file.ensures i, sym c.abandon-table.ensures i)) c.run_session-end.ensures.moves
 
-  same_file : file_of c.abandon-table.result.pages.opening ≡ file_of c.args.table.pages.opening
+  same_file : opening_file c.abandon-table.result.pages.opening ≡ opening_file c.args.table.pages.opening
   same_file = (opening_kept c.args.table c.abandon-table.result moves).0
 
   still_logged : c.abandon-table.result.pages.opening.logged ≡ true
   still_logged = (opening_kept c.args.table c.abandon-table.result moves).1 ∙ begun.logged
 
-  commits : c.abandon-table.result.pages.opening.commits ≡ (head_line (file_of c.args.table.pages.opening) ∷ []) ∷ kept.units
+  commits : c.abandon-table.result.pages.opening.commits ≡ (head_line (opening_file c.args.table.pages.opening) ∷ []) ∷ kept.units
   commits =
       ap (λ (t : TableView). t.pages.opening.commits) c.abandon-table.ensures
       ∙ sym (logged_commits c.run_session-end.new.file file_steady)
@@ -119,7 +119,7 @@ returns-in-Ok-clause-session g c steady uncounted begun within_limit =
     let ended = Ok c.in-Ok.field-0 in
     let k = kept g here steady uncounted begun ended c.in-Ok.is in
     let contents = table_contents c.args.table in
-    let file = file_of c.args.table.pages.opening in
+    let file = opening_file c.args.table.pages.opening in
     let opening = c.abandon-table.result.pages.opening in
     let holds = within c.args.limits.records c.args.table.tree.order contents file (subst (λ (n : ℕ). n ≤ most_records) c.records-most.ensures.value c.records-most.ensures.most) within_limit in
     let records_are : table_contents c.abandon-table.result ≡ overlay contents (writes_in_turn k.kept) = ap table_contents c.abandon-table.ensures ∙ records g here steady uncounted begun ended c.in-Ok.is in
@@ -133,7 +133,7 @@ returns-in-Ok-clause-session g c steady uncounted begun within_limit =
         mid = c.run_session-end.ensures.session.0;
         new = seen_as true treed c.run_session-end.new.file;
         session = session g here steady uncounted begun ended c.in-Ok.is;
-        status_is = ap (λ e. e.status) c.close_logged.ensures.end ∙ ap (status_of false (is_some c.close_logged.result.unclosed)) c.is_err-script_fault.ensures.value;
+        status_is = ap (λ e. e.status) c.close_logged.ensures.end ∙ ap (exit_status_of false (is_some c.close_logged.result.unclosed)) c.is_err-script_fault.ensures.value;
         fault = c.close_logged.ensures.fault;
         untried = tt;
         failed = c.run_session-end.ensures.failed;
@@ -152,7 +152,7 @@ returns-in-Err-clause-session g c steady uncounted begun within_limit =
     let ended = Err c.in-Err.field-0 in
     let k = kept g here steady uncounted begun ended c.in-Err.is in
     let contents = table_contents c.args.table in
-    let file = file_of c.args.table.pages.opening in
+    let file = opening_file c.args.table.pages.opening in
     let opening = c.abandon-table.result.pages.opening in
     let holds = within c.args.limits.records c.args.table.tree.order contents file (subst (λ (n : ℕ). n ≤ most_records) c.records-most.ensures.value c.records-most.ensures.most) within_limit in
     let tabled = table_steady g here steady uncounted begun ended c.in-Err.is in

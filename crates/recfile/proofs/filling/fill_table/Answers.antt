@@ -7,7 +7,7 @@ use Rattle.page_journal.specs.KeptStores.{guard_of}
 use Rattle.page_journal.specs.Recovery.{is_device as is_recovery}
 use Rattle.recfile.specs.FileFaults.{is_device}
 use Rattle.recfile.specs.Filling.{loaded}
-use Rattle.recfile.specs.Kept.{HasRecords, IsKept, file_of}
+use Rattle.recfile.specs.Kept.{HasRecords, IsKeptWith, opening_file}
 use Rattle.recfile.specs.declared.file_fault.FileFault.{FileFault}
 use Rattle.recfile.proofs.ClosingCountLemmas.{ok_told, unrefused}
 use Rattle.recfile.proofs.FillingLemmas.{has_loaded, kept_loaded}
@@ -32,7 +32,7 @@ returns-clause-any_moment g c = λ steady left since.
     let still = c.in_default.ensures.steady ∙ begun in
     let opening = c.in_default.ensures.opening ∙ c.abandon-store.ensures.opening in
     let main = (g.D.DiskState.seen c.seal_and_fill.new.store.disk).main in
-    ⊎_elim (λ old. inl (subst (λ (o : Opening). StandsFor (file_of o) left) opening old))
+    ⊎_elim (λ old. inl (subst (λ (o : Opening). StandsFor (opening_file o) left) opening old))
     (λ new. inr (new.0, subst (λ (k : ℕ). HasRecords k (loaded c.args.records.now) (recovered left)) c.order-order.ensures.value (has_loaded c.order-order.result c.args.records.now main (recovered left) c.requires.records.0 (c.in_default.ensures.filled begun) new.1)))
     (c.finish-disk.ensures.any_moment still left since)
 
@@ -42,5 +42,5 @@ returns-clause-closed g c = λ steady.
     let still = c.in_default.ensures.steady ∙ begun in
     let main = (g.D.DiskState.seen c.seal_and_fill.new.store.disk).main in
     let has = subst (λ (k : ℕ). HasRecords k (loaded c.args.records.now) main) c.order-order.ensures.value (has_loaded c.order-order.result c.args.records.now main main c.requires.records.0 (c.in_default.ensures.filled begun) refl) in
-    subst (λ (r : Result (Unit {0}) FileFault). OnOk r (IsKept g.D.DiskState c.args.table.tree.order (loaded c.args.records.now) c.finish-disk.result.0)) (sym c.told.ensures)
+    subst (λ (r : Result (Unit {0}) FileFault). OnOk r (IsKeptWith g.D.DiskState c.args.table.tree.order (loaded c.args.records.now) c.finish-disk.result.0)) (sym c.told.ensures)
     (ok_told c.finish-disk.result.1 _ (kept_loaded g.D.DiskState c.finish-disk.result.1 c.args.table.tree.order (loaded c.args.records.now) main c.finish-disk.result.0 c.finish-disk.ensures.same has (c.finish-disk.ensures.settled still)))

@@ -6,7 +6,7 @@ use Rattle.rec_types.specs.Table.{counted}
 use Rattle.page_store.specs.Guards.{Unsealed}
 use Rattle.page_store.specs.declared.page_edit.WriteFault.{WriteFault}
 use Rattle.recfile.specs.FileFaults.{is_device, is_device_answer}
-use Rattle.recfile.specs.Kept.{IsKept, file_of, refusals_of}
+use Rattle.recfile.specs.Kept.{IsKeptWith, opening_file, refused_calls}
 use Rattle.recfile.specs.declared.file_fault.FileFault.{FileFault}
 use Rattle.recfile.proofs.ClosingCountLemmas.{by_change, device_of_closing, device_of_sealing, device_of_store, is_stopped, moments_told, not_stopped, ok_told, seal_goes_on, seal_refuses, seal_seals, sealed_state, unrefused}
 use Rattle.page_journal.specs.Files.{Files}
@@ -22,22 +22,22 @@ pub returns-in-Ok-clause-any_moment : goal.returns-in-Ok-clause-any_moment
 returns-in-Ok-clause-any_moment g c steady left since =
     let sealed : IsTrue c.seal.new.self.pages.steady = ap (λ (t : TableView). t.pages.steady) c.seal.ensures.same ∙ steady in
     let opening = c.in-Ok.ensures.opening ∙ ap (λ (t : TableView). t.pages.opening) c.seal.ensures.same in
-    ⊎_elim (λ old. inl (subst (λ (o : Opening). StandsFor (file_of o) left) opening old))
+    ⊎_elim (λ old. inl (subst (λ (o : Opening). StandsFor (opening_file o) left) opening old))
     (λ new. inr (new.0, has_records c.seal.new.self c.args.table (g.D.DiskState.seen c.in-Ok.store.disk).main _ (ap (λ (t : TableView). t.tree.order) c.seal.ensures.same) (ap table_contents c.seal.ensures.same) new.1 (c.in-Ok.ensures.closed sealed)))
     (c.finish-disk.ensures.any_moment (c.in-Ok.ensures.steady ∙ sealed) left since)
 
 pub returns-in-Ok-clause-closed : goal.returns-in-Ok-clause-closed
 returns-in-Ok-clause-closed g c steady =
     let sealed : IsTrue c.seal.new.self.pages.steady = ap (λ (t : TableView). t.pages.steady) c.seal.ensures.same ∙ steady in
-    subst (λ (r : Result (Unit {0}) FileFault). OnOk r (IsKept g.D.DiskState c.args.table.tree.order (table_contents c.args.table) c.finish-disk.result.0)) (sym c.told.ensures)
+    subst (λ (r : Result (Unit {0}) FileFault). OnOk r (IsKeptWith g.D.DiskState c.args.table.tree.order (table_contents c.args.table) c.finish-disk.result.0)) (sym c.told.ensures)
     (ok_told c.finish-disk.result.1 _ (kept_so g.D.DiskState c.finish-disk.result.1 c.seal.new.self c.args.table (g.D.DiskState.seen c.in-Ok.store.disk).main c.finish-disk.result.0 (ap (λ (t : TableView). t.tree.order) c.seal.ensures.same) (ap table_contents c.seal.ensures.same) c.finish-disk.ensures.same (c.in-Ok.ensures.closed sealed) (c.finish-disk.ensures.settled (c.in-Ok.ensures.steady ∙ sealed))))
 
 -- the pages that the closing writes over were kept, or none was changed; no call was refused
 module _ (g : given.Over) (c : In_default g) where
-  none : c.args.table.pages.guard ≡ Unsealed 0 → c.args.table.pages.tail ≡ 0 → refusals_of c.seal.new.self.pages.guard ≡ 0
+  none : c.args.table.pages.guard ≡ Unsealed 0 → c.args.table.pages.tail ≡ 0 → refused_calls c.seal.new.self.pages.guard ≡ 0
   none unsealed tail = by_change c.args.table.pages.changed
       (λ changed. seal_refuses WriteFault _ _ c.args.table.pages.guard (Ok c.in_default.field-0) c.seal.new.self.pages.guard unsealed (c.in_default.ensures.guard changed tail))
-      (λ idle. ap refusals_of ((c.in_default.ensures.idle idle).1 ∙ unsealed))
+      (λ idle. ap refused_calls ((c.in_default.ensures.idle idle).1 ∙ unsealed))
 
   going : c.args.table.pages.guard ≡ Unsealed 0 → c.args.table.pages.tail ≡ 0 → is_stopped c.seal.new.self.pages.guard ≡ false
   going unsealed tail = by_change c.args.table.pages.changed
@@ -73,7 +73,7 @@ pub returns-in-Err-clause-device : goal.returns-in-Err-clause-device
 returns-in-Err-clause-device g c unsealed tail =
     let old = c.args.table.pages in
     let fault = c.in-Err.fault in
-    let left : refusals_of c.seal.new.self.pages.guard ≡ 0 = by_change old.changed
+    let left : refused_calls c.seal.new.self.pages.guard ≡ 0 = by_change old.changed
     (λ changed. seal_refuses WriteFault _ _ old.guard (Err fault) c.seal.new.self.pages.guard unsealed (c.in-Err.ensures.guard changed tail))
     (λ idle. absurd (cc (c.in-Err.ensures.idle idle).0)) in
     let given_back = c.give_back.ensures.device left in
@@ -90,7 +90,7 @@ returns-in-Err-close-clause-device g c unsealed tail =
     let old = c.args.table.pages in
     let new = c.seal.new.self.pages in
     let stop = c.in-Err-close.stop in
-    let left = ap refusals_of (c.in-Err-close.ensures.allowed (c.in_default.ensures.allowed 0 unsealed tail)) ∙ none g place unsealed tail in
+    let left = ap refused_calls (c.in-Err-close.ensures.allowed (c.in_default.ensures.allowed 0 unsealed tail)) ∙ none g place unsealed tail in
     let given_back = c.give_back-in-Err-close.ensures.device left in
     record {
       again = given_back.0;

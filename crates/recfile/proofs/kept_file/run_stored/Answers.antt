@@ -10,7 +10,7 @@ use Rattle.recfile.specs.FileFaults.{is_device}
 use Rattle.recfile.proofs.ClosingCountLemmas.{device_of_opening, some_told, unrefused, unsealed}
 use Rattle.recfile.specs.Dumped.{CanBeOpened, IsOutsideFile}
 use Rattle.page_store.specs.Opening.{Opening}
-use Rattle.recfile.specs.Kept.{ClosesSafely, file_of}
+use Rattle.recfile.specs.Kept.{ClosesSafely, opening_file}
 use Rattle.recfile.specs.WholeSession.{EndsFile, opened_file}
 use Rattle.recfile.specs.declared.file_fault.FileFault.{FileFault}
 use Rattle.recfile.proofs.OpenedLemmas.{can_be_opened}
@@ -26,7 +26,7 @@ returns-in-Ok-clause-session g c steady tree contents version closed few =
     let there = subst (λ (f : PageFile). IsClosed version f.pages f.tail tree contents) (sym (c.requires.file steady)) closed in
     let opened = c.in-Ok.ensures.reopened steady tree contents version there few in
     let same = c.in-Ok.ensures.stored in
-    let ends = λ (s : Seen) (order : ℕ) (o : Opening). EndsFile c.args.manner (g.R.CountedRead.left c.args.reader.now) (g.R.CountedRead.left c.run_table.new.reader) (g.W.CountedWrite.held c.args.out.now) (g.W.CountedWrite.held c.run_table.new.out) c.args.calls.now c.run_table.new.calls s (ClosesSafely g.D.DiskState (file_of o) c.run_table.result.disk c.run_table.result.unclosed order) c.run_table.result.unclosed c.run_table.result.status in
+    let ends = λ (s : Seen) (order : ℕ) (o : Opening). EndsFile c.args.manner (g.R.CountedRead.left c.args.reader.now) (g.R.CountedRead.left c.run_table.new.reader) (g.W.CountedWrite.held c.args.out.now) (g.W.CountedWrite.held c.run_table.new.out) c.args.calls.now c.run_table.new.calls s (ClosesSafely g.D.DiskState (opening_file o) c.run_table.result.disk c.run_table.result.unclosed order) c.run_table.result.unclosed c.run_table.result.status in
     subst (λ (o : Option FileFault). MatchOption o (ends (opened_file contents c.args.limits (g.D.DiskState.failures c.args.store.disk)) tree.order (opened_over (g.D.DiskState.began c.args.store.disk) c.args.store.log (commits_in c.args.store.log (g.D.DiskState.seen c.args.store.disk)) c.args.store.doubt)) IsOutsideFile) (sym c.run_table.ensures.opened) (subst (λ (x : Seen × ℕ × Opening). ends x.0 x.1 x.2) (λ i. (opened_file (opened.1 i) c.args.limits ((same.4 ∙ ap (failures_with (g.D.DiskState.failures c.args.store.disk)) c.requires.unused.1) i), (opened.0 i).order, c.in-Ok.ensures.opening i)) (c.run_table.ensures.session (same.2 ∙ steady) (c.in-Ok.ensures.no_faults.0, c.in-Ok.ensures.no_faults.1, c.in-Ok.ensures.no_calls)))
 
 pub returns-in-Ok-clause-ran : goal.returns-in-Ok-clause-ran

@@ -6,10 +6,10 @@ use Rattle.record_file.specs.Abstract.{OpenFile}
 use Rattle.record_file.specs.Runs.{Seen, seen}
 use Rattle.rec_types.specs.Table.{counted}
 use Rattle.recfile.specs.FileFaults.{by_device}
-use Rattle.recfile.specs.Kept.{ClosesSafely, CountsClosing, LeavesOld, file_of, is_sealed, refusals_of}
+use Rattle.recfile.specs.Kept.{ClosesSafely, CountsClosing, LeavesOld, opening_file, is_sealed, refused_calls}
 use Rattle.recfile.specs.WholeSession.{IsSession, IsUncounted, opened_file}
 use Rattle.recfile.proofs.SoundRunLemmas.{sound_ran}
-use Rattle.recfile.specs.Statuses.{status_of}
+use Rattle.recfile.specs.Statuses.{exit_status_of}
 use Rattle.recfile.proofs.OpenedLemmas.{treed, fresh, begun, never_4}
 use Rattle.recfile.proofs.KeptLemmas.{safely}
 use Rattle.recfile.proofs.kept_file.run_table.Given as given
@@ -47,7 +47,7 @@ returns-in-Ok-clause-ran g c = (
     mid = c.run_session-end.ensures.session.0;
     new = seen treed c.run_session-end.new.file;
     session = subst (λ e. IsSession c.args.manner (g.R.CountedRead.left c.args.reader.now) (g.R.CountedRead.left c.run_session-end.new.reader) (g.W.CountedWrite.held c.args.out.now) (g.W.CountedWrite.held c.run_session-end.new.out) (seen treed c.new-file.result) c.run_session-end.ensures.session.0 c.run_session-end.result.script e (seen treed c.run_session-end.new.file)) c.in-Ok.is c.run_session-end.ensures.session.1;
-    status_is = c.close_kept.ensures.status ∙ ap (status_of false (is_some c.close_kept.result.unclosed)) c.is_err-script_fault.ensures.value;
+    status_is = c.close_kept.ensures.status ∙ ap (exit_status_of false (is_some c.close_kept.result.unclosed)) c.is_err-script_fault.ensures.value;
     fault = c.close_kept.ensures.fault;
     untried = tt;
     failed = c.run_session-end.ensures.failed;
@@ -96,7 +96,7 @@ unfolding returns-in-Err-clause-ran
 returns-in-Err-clause-counted g c unsealed tail =
     let here = (goal.at.returns-in-Err-clause-counted g c).After-abandon-table in
     let before = same_guard g here ∙ unsealed in
-    let given_back = c.give_back.ensures.device (ap refusals_of before) in
+    let given_back = c.give_back.ensures.device (ap refused_calls before) in
     record {
       run = returns-in-Err-clause-ran g c;
       failures = record {
@@ -117,14 +117,14 @@ returns-in-Ok-clause-session g c steady uncounted =
         mid = c.run_session-end.ensures.session.0;
         new = seen treed c.run_session-end.new.file;
         session = subst (λ e. IsSession c.args.manner (g.R.CountedRead.left c.args.reader.now) (g.R.CountedRead.left c.run_session-end.new.reader) (g.W.CountedWrite.held c.args.out.now) (g.W.CountedWrite.held c.run_session-end.new.out) old c.run_session-end.ensures.session.0 c.run_session-end.result.script e (seen treed c.run_session-end.new.file)) c.in-Ok.is (session g here steady uncounted);
-        status_is = c.close_kept.ensures.status ∙ ap (status_of false (is_some c.close_kept.result.unclosed)) c.is_err-script_fault.ensures.value;
+        status_is = c.close_kept.ensures.status ∙ ap (exit_status_of false (is_some c.close_kept.result.unclosed)) c.is_err-script_fault.ensures.value;
         fault = c.close_kept.ensures.fault;
         untried = tt;
         failed = c.run_session-end.ensures.failed;
       };
       sound = sound g here steady uncounted;
-      closes = subst (λ (o : Opening). ClosesSafely g.D.DiskState (file_of o) c.close_kept.result.disk c.close_kept.result.unclosed c.args.table.tree.order (table_contents c.run_session-end.new.file.table)) (same_opening g here)
-          (safely g.D.DiskState (file_of c.abandon-table.result.pages.opening) c.close_kept.result.disk c.close_kept.result.unclosed c.abandon-table.result c.run_session-end.new.file.table c.args.table.tree.order c.abandon-table.ensures (same_order g here) (c.close_kept.ensures.closed (table_steady g here steady uncounted)));
+      closes = subst (λ (o : Opening). ClosesSafely g.D.DiskState (opening_file o) c.close_kept.result.disk c.close_kept.result.unclosed c.args.table.tree.order (table_contents c.run_session-end.new.file.table)) (same_opening g here)
+          (safely g.D.DiskState (opening_file c.abandon-table.result.pages.opening) c.close_kept.result.disk c.close_kept.result.unclosed c.abandon-table.result c.run_session-end.new.file.table c.args.table.tree.order c.abandon-table.ensures (same_order g here) (c.close_kept.ensures.closed (table_steady g here steady uncounted)));
     }
 
 pub returns-in-Err-clause-session : goal.returns-in-Err-clause-session
@@ -154,4 +154,4 @@ returns-in-Ok-clause-stopped g c steady uncounted stopped =
 pub returns-in-Err-clause-stopped : goal.returns-in-Err-clause-stopped
 returns-in-Err-clause-stopped g c steady uncounted stopped =
     let here = (goal.at.returns-in-Err-clause-stopped g c).After-abandon-table in
-    subst (λ (o : Opening). LeavesOld g.D.DiskState (file_of o) c.give_back.result) (same_opening g here) (c.give_back.ensures.old (table_steady g here steady uncounted))
+    subst (λ (o : Opening). LeavesOld g.D.DiskState (opening_file o) c.give_back.result) (same_opening g here) (c.give_back.ensures.old (table_steady g here steady uncounted))

@@ -1,14 +1,8 @@
 use Rattle.std.proofs.Common.{◌≡◌, ◌∙◌, ℕ, ◌+◌, ◌<◌, Bool, true, false, refl, ap, arith}
 use Rattle.std.proofs.lemmas.Bool.Decides.{nat_tests}
-use Rattle.rec_types.specs.Table.{counted, greatest_count}
+use Rattle.rec_types.specs.Table.{counted}
+use Rattle.recfile.proofs.ClosingCountLemmas.{no_less, one_more}
 use Rattle.recfile.proofs.laws.closings_are_counted.Goals as goal
-
-one_more : (n : ℕ) → n < greatest_count → counted n true ≡ n + 1
-one_more n less = grind (arith, nat_tests)
-
-no_less : (n : ℕ) (b : Bool) → n < counted n b + 1
-no_less n true = grind (arith, nat_tests)
-no_less n false = omega arith
 
 pub returns-clause-silent : goal.returns-clause-silent
 returns-clause-silent c = λ before after closed. closed.failures ∙ ap (counted before) (closed.once refl)

@@ -1,6 +1,5 @@
-use Rattle.std.proofs.Common.{Result, Ok, OnOk, refl, subst}
-use Rattle.recfile.specs.declared.endings.EndFault.{EndFault}
-use Rattle.recfile.proofs.DurableExampleLemmas.{answered_lost, commit_made_up, doubt_alone, doubt_unbegun, kept_unlogged, ok_of}
+use Rattle.std.proofs.Common.{refl}
+use Rattle.recfile.proofs.DurableExampleLemmas.{answered_lost, commit_made_up, doubt_alone, doubt_unbegun, doubt_unwritten, kept_unlogged, ok_of}
 use Rattle.recfile.proofs.laws.durable_sessions_by_example.Goals as goal
 
 pub returns : goal.returns
@@ -10,5 +9,6 @@ returns c = record {
   alone = λ manner left leaves held holds before after order contents limits failures commits unclosed status disk ends a b left_so is doubt first both may found. doubt_alone order contents ends.made.kept _ a b left_so is doubt first both (ends.lasts left_so may) found;
   unended = λ manner left leaves held holds before after order contents limits failures commits status disk ends count left_so is may some. some ((ok_of ends.run.ended count is _ ends.closed refl).no_log.crash left_so may);
   unbegun = doubt_unbegun;
+  unwritten = doubt_unwritten;
   unkept = kept_unlogged;
 }

@@ -1,12 +1,12 @@
 use Rattle.std.proofs.Common.{◌≡◌, ℕ, Bool, true, false, ◌||◌, is_some, Result, Ok, Err, sym, ap, ◌∙◌, arith}
 use Rattle.std.proofs.lemmas.Bool.{false≢true}
 use Rattle.std.specs.Result.{is_err}
-use Rattle.recfile.specs.Statuses.{status_of}
+use Rattle.recfile.specs.Statuses.{exit_status_of}
 use Rattle.recfile.specs.Streams.{CallsMade, TellsFailed, run_read_fault, run_write_fault}
 use Rattle.recfile.specs.declared.script.RunFault.{RunFault}
 use Rattle.recfile.proofs.laws.failed_calls_are_told.Goals as goal
 
-none_failed : (end_stopped file_fault : Bool) (answer : Result ℕ RunFault) (before after : CallsMade) → 0 ≡ status_of end_stopped file_fault (is_err answer)
+none_failed : (end_stopped file_fault : Bool) (answer : Result ℕ RunFault) (before after : CallsMade) → 0 ≡ exit_status_of end_stopped file_fault (is_err answer)
     → TellsFailed before (run_read_fault answer) (run_write_fault answer) after
     → (after.read_failed ≡ before.read_failed) × (after.write_failed ≡ before.write_failed)
 none_failed true file_fault answer before after status failed = absurd (omega (arith, status))

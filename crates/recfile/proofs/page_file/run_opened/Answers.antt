@@ -7,7 +7,7 @@ use Rattle.record_file.specs.Abstract.{OpenFile}
 use Rattle.record_file.specs.Runs.{Seen, seen}
 use Rattle.recfile.specs.WholeSession.{IsSession, IsUncounted, opened_file}
 use Rattle.recfile.proofs.SoundRunLemmas.{sound_ran}
-use Rattle.recfile.specs.Statuses.{status_of}
+use Rattle.recfile.specs.Statuses.{exit_status_of}
 use Rattle.recfile.proofs.OpenedLemmas.{treed, fresh, begun, never_4}
 use Rattle.recfile.specs.FileFaults.{by_device}
 use Rattle.recfile.proofs.WritingLemmas.{written_over, stays_by}
@@ -54,7 +54,7 @@ returns-in-Ok-clause-ran g c store is = record {
       mid = c.run_session-end.ensures.session.0;
       new = seen treed c.run_session-end.new.file;
       session = subst (λ e. IsSession c.args.manner (g.R.CountedRead.left c.args.reader.now) (g.R.CountedRead.left c.run_session-end.new.reader) (g.W.CountedWrite.held c.args.out.now) (g.W.CountedWrite.held c.run_session-end.new.out) (seen treed c.new-file.result) c.run_session-end.ensures.session.0 c.run_session-end.result.script e (seen treed c.run_session-end.new.file)) c.in-Ok.is c.run_session-end.ensures.session.1;
-      status_is = c.close_in.ensures.status ∙ ap (status_of false (is_some c.close_in.result.unclosed)) c.is_err-script_fault.ensures.value;
+      status_is = c.close_in.ensures.status ∙ ap (exit_status_of false (is_some c.close_in.result.unclosed)) c.is_err-script_fault.ensures.value;
       fault = c.close_in.ensures.fault;
       untried = tt;
       failed = c.run_session-end.ensures.failed;
@@ -110,7 +110,7 @@ returns-in-Ok-clause-session g c store is steady uncounted =
         mid = c.run_session-end.ensures.session.0;
         new = seen treed c.run_session-end.new.file;
         session = subst (λ e. IsSession c.args.manner (g.R.CountedRead.left c.args.reader.now) (g.R.CountedRead.left c.run_session-end.new.reader) (g.W.CountedWrite.held c.args.out.now) (g.W.CountedWrite.held c.run_session-end.new.out) old c.run_session-end.ensures.session.0 c.run_session-end.result.script e (seen treed c.run_session-end.new.file)) c.in-Ok.is (session g here steady uncounted);
-        status_is = c.close_in.ensures.status ∙ ap (status_of false (is_some c.close_in.result.unclosed)) c.is_err-script_fault.ensures.value;
+        status_is = c.close_in.ensures.status ∙ ap (exit_status_of false (is_some c.close_in.result.unclosed)) c.is_err-script_fault.ensures.value;
         fault = c.close_in.ensures.fault;
         untried = tt;
         failed = c.run_session-end.ensures.failed;

@@ -1,6 +1,6 @@
 use Rattle.std.proofs.Common.{inr, ℕ, ap, subst}
 use Rattle.rec_types.specs.LimitBounds.{Bounds}
-use Rattle.recfile.specs.FilesAt.{Tells, TellsTree}
+use Rattle.recfile.specs.FilesAt.{TellsOfFile, TellsTree}
 use Rattle.recfile.proofs.ReadingLemmas.{silent_inside}
 use Rattle.recfile.proofs.program.check.Goals as goal
 
@@ -8,7 +8,7 @@ pub returns-clause-told : goal.returns-clause-told
 returns-clause-told g c =
     let held = g.W.Write.contents c.args.out.now in
     let holds = g.W.Write.contents c.check_in-store.new.out in
-    subst (λ (n : ℕ). Tells g.P.Pages.StoreState (g.P.PageFiles.at c.args.files.now c.args.path.now) n (TellsTree held holds) held holds c.check_in-store.result.1) (ap (λ (l : Bounds). l.records) c.greatest_limits.ensures)
+    subst (λ (n : ℕ). TellsOfFile g.P.Pages.StoreState (g.P.PageFiles.at c.args.files.now c.args.path.now) n (TellsTree held holds) held holds c.check_in-store.result.1) (ap (λ (l : Bounds). l.records) c.greatest_limits.ensures)
     (inr (record {
       opened = c.in_ok-store.store;
       found = c.in_ok-store.ensures.found;

@@ -3,7 +3,7 @@ use Rattle.std.specs.Result.{is_err}
 use Rattle.rec_types.specs.Table.{counted}
 use Rattle.btree_delete.specs.TableView.{table_contents}
 use Rattle.recfile.specs.FileFaults.{is_device_answer}
-use Rattle.recfile.specs.Kept.{CountsClosing, IsKept}
+use Rattle.recfile.specs.Kept.{CountsClosing, IsKeptWith}
 use Rattle.recfile.specs.LogOver.{HoldsRecords}
 use Rattle.recfile.specs.declared.file_fault.FileFault.{FileFault}
 use Rattle.recfile.proofs.KeptLemmas.{ok_wider}
@@ -17,7 +17,7 @@ module _ (g : given.Over) (c : After-end_beside g) (steady : IsTrue c.args.table
   at_ok : {P : Type 0} → OnOk c.close_table-disk.result.1 P → P
   at_ok {P} known = subst (λ (r : Result (Unit {0}) FileFault). OnOk r P) c.in-Ok.is known
 
-  kept : IsKept g.D.DiskState c.args.table.tree.order (table_contents c.args.table) c.close_table-disk.result.0
+  kept : IsKeptWith g.D.DiskState c.args.table.tree.order (table_contents c.args.table) c.close_table-disk.result.0
   kept = at_ok (c.close_table-disk.ensures.closed steady)
 
   holds : HoldsRecords c.args.table.tree.order (table_contents c.args.table) (g.D.DiskState.seen c.close_table-disk.result.0).main

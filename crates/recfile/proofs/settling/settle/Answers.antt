@@ -1,5 +1,5 @@
 use Rattle.std.proofs.Common.{◌≡◌, ◌∙◌, inl, inr, ℕ, false, List, Option, Some, None, MatchOption, Result, Err, IfErr, IsSome, IsTrue, rules, refl, sym, ap, subst}
-use Rattle.std.proofs.lemmas.Result.{IfErr-weaker}
+use Rattle.std.proofs.lemmas.Result.{IfErr-at_err, IfErr-weaker}
 use Rattle.std.specs.Result.{is_err}
 use Rattle.rec_types.specs.Contents.{Contents}
 use Rattle.rec_types.specs.Table.{counted}
@@ -13,12 +13,13 @@ use Rattle.recfile.specs.Beside.{IsSettledWith, IsSettlingFault, LeavesFiles}
 use Rattle.recfile.specs.FileFaults.{is_device, is_device_answer}
 use Rattle.recfile.specs.Kept.{CountsClosing}
 use Rattle.recfile.specs.LogOver.{Finds, FindsLog, HoldsRecords, head_line}
-use Rattle.recfile.specs.Settling.{IsUnsettled, PutsRight}
+use Rattle.recfile.specs.Settling.{FindsAny, IsUnsettled, PutsRight}
 use Rattle.recfile.specs.declared.file_fault.FileFault.{FileFault}
+use Rattle.recfile.specs.declared.file_fault.FileFault.TheVariants.{BadCommits}
 use Rattle.recfile.proofs.ClosingCountLemmas.{device_of_recovery, device_of_store}
 use Rattle.recfile.proofs.KeptLemmas.{always, not_recovered, ok_wider}
 use Rattle.recfile.proofs.KeptOnceLemmas.{finds_once, finds_order}
-use Rattle.recfile.proofs.SettlingLemmas.{IsStop, files_find, recovery_commits, recovery_settles, still_unlogged, store_commits, store_outside, unlogged_leaves, only_err}
+use Rattle.recfile.proofs.SettlingLemmas.{IsStop, files_find, files_stand, not_settling, recovery_commits, recovery_settles, still_unlogged, store_commits, store_outside, unlogged_leaves, only_err}
 use Rattle.recfile.proofs.settling.settle.Given as given
 use Rattle.recfile.proofs.settling.settle.Goals as goal
 use Rattle.recfile.proofs.settling.settle.Goals.{After-found_commits}
@@ -27,6 +28,7 @@ pub returns-in-Err : goal.returns-in-Err
 returns-in-Err g c =
     let began = g.D.DiskState.began c.args.disk in
     let before = g.D.DiskState.failures c.args.disk in
+    let counts : g.D.DiskState.failures c.in-Err.disk ≡ counted before (is_device c.from.result) = c.in-Err.ensures.device ∙ ap (counted before) (device_of_recovery c.in-Err.fault) ∙ ap (λ (f : FileFault). counted before (is_device f)) (sym c.from.ensures) in
     record {
       kept = λ st order records finds left since.
           let stands = c.in-Err.ensures.stopped st left since in
@@ -36,13 +38,15 @@ returns-in-Err g c =
       logged = λ st some. tt;
       alone = λ st none. tt;
       bad_commits = λ st bad. absurd (recovery_commits c.in-Err.fault c.from.result c.from.ensures (only_err bad));
+      unfound = λ st none left since. (c.in-Err.ensures.stopped st left since, c.in-Err.ensures.log st left since);
       fault = λ st. inl (not_recovered began c.in-Err.fault c.from.result c.from.ensures (c.in-Err.ensures.bad_journal st));
       bare = λ st. tt;
       failures = record {
         again = false;
-        failures = c.in-Err.ensures.device ∙ ap (counted before) (device_of_recovery c.in-Err.fault) ∙ ap (λ (f : FileFault). counted before (is_device f)) (sym c.from.ensures);
+        failures = counts;
         once = λ never. absurd (cc never);
       };
+      once = λ st none. counts;
       steady = tt;
     }
 
@@ -84,6 +88,7 @@ returns-in-Ok-None g c =
     let keeps : IsTrue (d.steady c.args.disk) → (left : Files) → d.left_since new 0 left → LeavesFiles first left = λ st left since. subst (λ (f : Files). LeavesFiles f left) (began g here) (c.keep_alone.ensures.old (steady g here ∙ st) left since) in
     let unfound : c.in-Ok-None.field-0 ≡ None = search rules in
     let none : IsTrue (d.steady c.args.disk) → first.commits.log ≡ None = λ st. ap (λ (f : Files). f.commits.log) (sym c.in-Ok.ensures.began) ∙ subst (λ o. MatchOption o ((d.began c.in-Ok.store.disk).commits.log ≡ None) (λ text. HasLog (IsTextOf text.items) (d.began c.in-Ok.store.disk))) unfound (c.in-Ok-None.ensures.text (c.in-Ok.ensures.steady ∙ st)) in
+    let counts : d.failures new ≡ d.failures c.args.disk = ap d.failures c.keep_alone.ensures.same ∙ c.in-Ok-None.ensures.failures ∙ c.in-Ok.ensures.failures in
     let settled : IsTrue (d.steady c.args.disk) → IsSettled d (recovered first) new = λ st. subst (λ (m : PageFile). IsSettled d m new) (main g here st) (c.keep_alone.ensures.settled (steady g here ∙ st)) in
     subst (λ (r : Result (Unit {0}) FileFault). PutsRight d c.args.disk r new) (sym c.keep_alone.ensures.fault) (record {
       kept = λ st order records finds left since. files_find order records first left finds (keeps st left since);
@@ -96,13 +101,15 @@ returns-in-Ok-None g c =
       logged = λ st some. absurd (some (none st));
       alone = λ st was. (settled st, keeps st);
       bad_commits = λ st bad. absurd (cc bad);
+      unfound = λ st none left since. files_stand first left (keeps st left since);
       fault = λ st. tt;
       bare = λ st. (subst (λ (m : PageFile). IsSettled d m new) (sym (settled st).seen) (settled st), c.keep_alone.ensures.log (steady g here ∙ st));
       failures = record {
         again = false;
-        failures = ap d.failures c.keep_alone.ensures.same ∙ c.in-Ok-None.ensures.failures ∙ c.in-Ok.ensures.failures;
+        failures = counts;
         once = λ ok. refl;
       };
+      once = λ st was. counts;
       steady = ap d.steady c.keep_alone.ensures.same ∙ steady g here;
     })
 
@@ -115,6 +122,7 @@ returns-in-Ok-Some g c =
     let is = began g here in
     let there : c.in-Ok-Some.field-0 ≡ Some c.in-Ok-Some.text = search rules in
     let some : IsTrue (d.steady c.args.disk) → HasLog (IsTextOf c.in-Ok-Some.text.items) first = λ st. subst (λ (f : Files). HasLog (IsTextOf c.in-Ok-Some.text.items) f) c.in-Ok.ensures.began (subst (λ o. MatchOption o ((d.began c.in-Ok.store.disk).commits.log ≡ None) (λ text. HasLog (IsTextOf text.items) (d.began c.in-Ok.store.disk))) there (c.in-Ok-Some.ensures.text (c.in-Ok.ensures.steady ∙ st))) in
+    let stays : IsTrue (d.steady c.args.disk) → (FindsAny first → ⊥) → (left : Files) → d.left_since new 0 left → LeavesFiles first left = λ st none left since. subst (λ (f : Files). LeavesFiles f left) is (c.settle_file.ensures.unfound (steady g here ∙ st) (λ any. none (subst FindsAny is any)) left since) in
     let why : IsTrue (d.steady c.args.disk) → IfErr c.settle_file.result.1 (IsStop first) = λ st. subst (λ (f : Files). IfErr c.settle_file.result.1 (IsStop f)) is (c.settle_file.ensures.fault (steady g here ∙ st)) in
     record {
       kept = λ st order records finds left since. c.settle_file.ensures.kept (steady g here ∙ st) order records (subst (Finds order records) (sym is) finds) left since;
@@ -126,12 +134,14 @@ returns-in-Ok-Some g c =
       found = λ st order records finds. IfErr-weaker c.settle_file.result.1 (IsStop first) IsSettlingFault (λ fault why. why.1 (order, records, finds)) (why st);
       logged = λ st there. ok_wider c.settle_file.result.1 _ _ (λ made. (made.0, made.1, subst (Finds made.0 made.1) is made.2)) (c.settle_file.ensures.over (steady g here ∙ st));
       alone = λ st none. absurd (cc (sym (some st).1 ∙ none));
-      bad_commits = λ st bad left since. subst (λ (f : Files). LeavesFiles f left) is (c.settle_file.ensures.bad (steady g here ∙ st) bad left since);
+      bad_commits = λ st bad. stays st (λ any. (not_settling BadCommits ((IfErr-at_err (IsStop first) bad (why st)).1 any)).1 refl);
+      unfound = λ st none left since. files_stand first left (stays st none left since);
       fault = λ st. IfErr-weaker c.settle_file.result.1 (IsStop first) (IsUnsettled first)
           (λ fault told. inr (subst (λ (l : Option (List ℕ)). IsSome l) (sym (some st).1) refl, (c.in-Ok.ensures.file st).0, told.0))
           (why st);
       bare = λ st. ok_wider c.settle_file.result.1 _ _ (λ made. (made.3.settled, made.3.no_log)) (c.settle_file.ensures.over (steady g here ∙ st));
       failures = subst (λ n. CountsClosing n (is_err c.settle_file.result.1) (is_device_answer c.settle_file.result.1) (d.failures new)) (c.in-Ok-Some.ensures.failures ∙ c.in-Ok.ensures.failures) c.settle_file.ensures.failures;
+      once = λ st none. absurd (cc (sym (some st).1 ∙ none));
       steady = always c.settle_file.result.1 _ (c.settle_file.ensures.steady ∙ steady g here);
     }
 
@@ -141,6 +151,11 @@ returns-in-Err-found_commits g c =
     let here = (goal.at.returns-in-Err-found_commits g c).After-found_commits in
     let first = d.began c.args.disk in
     let new = c.let_go.result.0 in
+    let counts : d.failures new ≡ counted (d.failures c.args.disk) (is_device c.from-in-Err-found_commits.result) =
+    ap d.failures (c.let_go.ensures.same (λ sealed. absurd (cc (sym (state g here) ∙ sealed))))
+    ∙ c.in-Err-found_commits.ensures.failures
+    ∙ (λ i. counted (c.in-Ok.ensures.failures i) (device_of_store (Err c.in-Err-found_commits.fault) i))
+    ∙ ap (λ (f : FileFault). counted (d.failures c.args.disk) (is_device f)) (sym c.from-in-Err-found_commits.ensures) in
     let outside = store_outside c.in-Err-found_commits.fault c.from-in-Err-found_commits.result c.from-in-Err-found_commits.ensures in
     let leaves : IsTrue (d.steady c.args.disk) → (left : Files) → d.left_since new 0 left → LeavesFiles first left = λ st left since.
     let old = still_unlogged (d.began c.found_commits.new.self.disk) c.found_commits.new.self.log (commits_in c.found_commits.new.self.log (d.seen c.found_commits.new.self.disk)) c.found_commits.new.self.doubt refl (log g here) in
@@ -152,15 +167,14 @@ returns-in-Err-found_commits g c =
       logged = λ st some. tt;
       alone = λ st none. tt;
       bad_commits = λ st bad. absurd (store_commits c.in-Err-found_commits.fault c.from-in-Err-found_commits.result c.from-in-Err-found_commits.ensures (only_err bad));
+      unfound = λ st none left since. files_stand first left (leaves st left since);
       fault = λ st. inl (inl outside);
       bare = λ st. tt;
       failures = record {
         again = false;
-        failures = ap d.failures (c.let_go.ensures.same (λ sealed. absurd (cc (sym (state g here) ∙ sealed))))
-            ∙ c.in-Err-found_commits.ensures.failures
-            ∙ (λ i. counted (c.in-Ok.ensures.failures i) (device_of_store (Err c.in-Err-found_commits.fault) i))
-            ∙ ap (λ (f : FileFault). counted (d.failures c.args.disk) (is_device f)) (sym c.from-in-Err-found_commits.ensures);
+        failures = counts;
         once = λ never. absurd (cc never);
       };
+      once = λ st none. counts;
       steady = tt;
     })

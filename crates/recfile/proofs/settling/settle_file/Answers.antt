@@ -13,7 +13,7 @@ use Rattle.page_journal.specs.LoggedStores.{commits_in}
 use Rattle.btree_delete.specs.TableView.{IsClosed, table_contents}
 use Rattle.recfile.specs.Beside.{IsHeadFault, IsUnput, LeavesEnded}
 use Rattle.recfile.specs.FileFaults.{is_device, is_device_answer}
-use Rattle.recfile.specs.Kept.{CountsClosing, file_of}
+use Rattle.recfile.specs.Kept.{CountsClosing, opening_file}
 use Rattle.recfile.specs.Settling.{FindsAny}
 use Rattle.recfile.specs.LogOver.{Finds, HoldsRecords, IsLogOver, head_line}
 use Rattle.recfile.specs.declared.file_fault.FileFault.{FileFault}
@@ -108,7 +108,7 @@ module _ (g : given.Over) (c : After-settle_table g) (steady : IsTrue (g.D.DiskS
   main : (g.D.DiskState.seen c.head_of.new.store.disk).main ≡ recovered began
   main = (λ i. record { pages = c.head_of.ensures.stays.pages i; tail = c.head_of.ensures.stays.tail i }) ∙ (c.requires.file steady).1
 
-  opening : (file_of c.in-Ok-open_from.table.pages.opening ≡ recovered began) × (c.in-Ok-open_from.table.pages.opening.log ≡ began.commits.log) × (c.in-Ok-open_from.table.pages.opening.logged ≡ false)
+  opening : (opening_file c.in-Ok-open_from.table.pages.opening ≡ recovered began) × (c.in-Ok-open_from.table.pages.opening.log ≡ began.commits.log) × (c.in-Ok-open_from.table.pages.opening.logged ≡ false)
   opening = still_unlogged began c.args.store.log (commits_in c.args.store.log (g.D.DiskState.seen c.args.store.disk)) c.args.store.doubt (c.in-Ok-open_from.ensures.opening ∙ c.head_of.ensures.stays.opening) c.requires.unused.2
 
   head : c.deref.result.now ≡ head_line (recovered began)
@@ -137,22 +137,25 @@ module _ (g : given.Over) (c : After-settle_table g) (steady : IsTrue (g.D.DiskS
       subst (λ (f : PageFile). HoldsRecords c.in-Ok-open_from.table.tree.order (table_contents c.in-Ok-open_from.table) f) main
       (can.2, can.0, ap (λ t. t.order) (sym opened.0), subst (λ (m : Contents). IsClosed can.2 (g.D.DiskState.seen c.head_of.new.store.disk).main.pages (g.D.DiskState.seen c.head_of.new.store.disk).main.tail can.0 m) (sym opened.1) can.3, subst (λ (n : ℕ). can.0.count ≤ n) (ap (λ (b : Bounds). b.records) c.greatest_limits.ensures) can.4)
 
+  -- a log over it makes records that an opening finds
+  finds : (records : Contents) → IsLogOver c.deref.result.now (table_contents c.in-Ok-open_from.table) records (units_of bytes) → Finds c.in-Ok-open_from.table.tree.order records began
+  finds records made = record {
+    belongs = (c.requires.file steady).0;
+    under = table_contents c.in-Ok-open_from.table;
+    holds = holds;
+    log = over_found (head_line (recovered began)) (table_contents c.in-Ok-open_from.table) records began.commits.log bytes (c.requires.text steady).1
+        (subst (λ (h : List ℕ). IsLogOver h (table_contents c.in-Ok-open_from.table) records (units_of bytes)) head made);
+  }
+
 pub returns-in-Ok-open_from-clause-over : goal.returns-in-Ok-open_from-clause-over
 returns-in-Ok-open_from-clause-over g c steady =
     let here = (goal.at.returns-in-Ok-open_from-clause-over g c).After-settle_table in
     let text = c.requires.text steady in
-    let file = began g here steady in
     ok_wider c.settle_table.result.1 _ _
     (λ made. (
       c.in-Ok-open_from.table.tree.order,
       made.0,
-      record {
-        belongs = (c.requires.file steady).0;
-        under = table_contents c.in-Ok-open_from.table;
-        holds = holds g here steady;
-        log = over_found (head_line (recovered file)) (table_contents c.in-Ok-open_from.table) made.0 file.commits.log text.0 text.1
-            (subst (λ (h : List ℕ). IsLogOver h (table_contents c.in-Ok-open_from.table) made.0 (units_of text.0)) (head g here steady) made.1);
-      },
+      finds g here steady made.0 made.1,
       made.2,
     ))
     (c.settle_table.ensures.over (table_steady g here steady) (units_of text.0) text.2.1 text.2.0)
@@ -199,3 +202,28 @@ returns-clause-kept g c steady order records finds left since =
     let stop = c.in-Err-open_from.ensures.stays in
     let is = still_unlogged (d.began c.args.store.disk) c.args.store.log (commits_in c.args.store.log (d.seen c.args.store.disk)) c.args.store.doubt (stop.opening ∙ stays.opening) c.requires.unused.2 in
     files_find order records (d.began c.args.store.disk) left finds (unlogged_leaves (d.began c.args.store.disk) left _ is.0 is.1 is.2 (c.let_go-in-Err-open_from.ensures.old (stop.steady ∙ stays.steady ∙ steady) left since))
+
+pub returns-in-Err-clause-unfound : goal.returns-in-Err-clause-unfound
+returns-in-Err-clause-unfound g c steady none left since =
+    let d = g.D.DiskState in
+    let stays = c.head_of.ensures.stays in
+    let is = still_unlogged (d.began c.args.store.disk) c.args.store.log (commits_in c.args.store.log (d.seen c.args.store.disk)) c.args.store.doubt stays.opening c.requires.unused.2 in
+    unlogged_leaves (d.began c.args.store.disk) left _ is.0 is.1 is.2 (c.let_go.ensures.old (stays.steady ∙ steady) left since)
+
+pub returns-clause-unfound : goal.returns-clause-unfound
+returns-clause-unfound g c steady none left since =
+    let d = g.D.DiskState in
+    let stays = c.head_of.ensures.stays in
+    let stop = c.in-Err-open_from.ensures.stays in
+    let is = still_unlogged (d.began c.args.store.disk) c.args.store.log (commits_in c.args.store.log (d.seen c.args.store.disk)) c.args.store.doubt (stop.opening ∙ stays.opening) c.requires.unused.2 in
+    unlogged_leaves (d.began c.args.store.disk) left _ is.0 is.1 is.2 (c.let_go-in-Err-open_from.ensures.old (stop.steady ∙ stays.steady ∙ steady) left since)
+
+pub returns-in-Ok-open_from-clause-unfound : goal.returns-in-Ok-open_from-clause-unfound
+returns-in-Ok-open_from-clause-unfound g c steady none left since =
+    let here = (goal.at.returns-in-Ok-open_from-clause-unfound g c).After-settle_table in
+    let text = c.requires.text steady in
+    let is = opening g here steady in
+    unlogged_leaves (began g here steady) left c.in-Ok-open_from.table.pages.opening is.0 is.1 is.2
+    (c.settle_table.ensures.unput (table_steady g here steady) (units_of text.0) text.2.1 text.2.0
+    (λ records over. none (c.in-Ok-open_from.table.tree.order, records, finds g here steady records over))
+    left since)

@@ -2,12 +2,13 @@ use Rattle.std.proofs.Common.{◌∙◌, ℕ, ap, inl, subst, rules}
 use Rattle.std.proofs.lemmas.Result.{IfErr-weaker}
 use Rattle.std.specs.Result.{is_err}
 use Rattle.rec_types.specs.Table.{counted}
+use Rattle.page_store.specs.Opening.{Opening}
 use Rattle.btree_delete.specs.Origins.{Origin}
 use Rattle.btree_delete.specs.TableView.{table_contents}
-use Rattle.recfile.specs.Beside.{IsSettledWith}
+use Rattle.recfile.specs.Beside.{IsSettledWith, LeavesOpening}
 use Rattle.recfile.specs.Dumped.{IsOutsideFile}
 use Rattle.recfile.specs.FileFaults.{is_device_answer}
-use Rattle.recfile.specs.Kept.{CountsClosing, refusals_of}
+use Rattle.recfile.specs.Kept.{CountsClosing, refused_calls}
 use Rattle.recfile.specs.LogOver.{IsLogOver}
 use Rattle.recfile.proofs.KeptLemmas.{ok_wider}
 use Rattle.recfile.proofs.settling.settle_table.Goals as goal
@@ -23,7 +24,7 @@ returns-clause-over g c steady units are is =
 pub returns-in-Err-clause-failures : goal.returns-in-Err-clause-failures
 returns-in-Err-clause-failures g c unsealed tail =
     let guard = ap (λ (o : Origin). o.guard) c.put_over.ensures.stays.origin ∙ unsealed in
-    let given_back = c.give_back.ensures.device (ap refusals_of guard) in
+    let given_back = c.give_back.ensures.device (ap refused_calls guard) in
     record {
       again = given_back.0;
       failures = given_back.1 ∙ ap (λ n. counted n given_back.0) c.in-Err.ensures.stays.failures;
@@ -39,3 +40,12 @@ returns-clause-failures g c unsealed tail =
 
 pub returns-clause-fault : goal.returns-clause-fault
 returns-clause-fault g c steady units are is = IfErr-weaker c.close_beside.result.1 IsOutsideFile _ (λ fault outside. inl (inl outside)) c.close_beside.ensures.fault
+
+pub returns-in-Err-clause-unput : goal.returns-in-Err-clause-unput
+returns-in-Err-clause-unput g c steady units are is none left since =
+    subst (λ (o : Opening). LeavesOpening o left) (ap (λ (o : Origin). o.opening) c.put_over.ensures.stays.origin) (c.give_back.ensures.commits (c.put_over.ensures.stays.sound ∙ steady) left since)
+
+pub returns-clause-unput : goal.returns-clause-unput
+returns-clause-unput g c steady units are is none left since =
+    let over : IsLogOver c.args.head.now (table_contents c.args.table) (table_contents c.put_over.new.table) units = search rules in
+    absurd (none (table_contents c.put_over.new.table) over)

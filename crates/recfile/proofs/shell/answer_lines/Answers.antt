@@ -3,7 +3,7 @@ use Rattle.std.proofs.lemmas.Result.{err_from_is_err_and}
 use Rattle.command_text.specs.Script.{ended_lines}
 use Rattle.record_file.specs.Runs.{seen_as}
 use Rattle.recfile.specs.declared.script.RunFault.{RunFault}
-use Rattle.recfile.specs.Shell.{AnsweredSoFar, StopsAt}
+use Rattle.recfile.specs.Shell.{AnsweredSoFar, StopsAtLine}
 use Rattle.recfile.specs.Streams.{run_write_fault}
 use Rattle.recfile.proofs.ShellLemmas.{so_far_ended, so_far_on, stops_ended}
 use Rattle.recfile.proofs.shell.answer_lines.Goals as goal
@@ -47,7 +47,7 @@ returns-in_err-answer_line-clause-answered g c held old taken so_far =
     let last : List ℕ = c.in-Some.last.now in
     let after : List ℕ = c.in-Some.after.now in
     let told = err_from_is_err_and c.from_residual.result c.from_residual.ensures.1 in
-    subst (λ (r : Result (Unit {0}) RunFault). MatchResult r (λ _. AnsweredSoFar c.args.strict held (g.W.CountedWrite.held c.answer_line.new.writer) old (seen_as g.K.Keeper.keeps g.T.TableState c.answer_line.new.file) (taken ++ c.args.bytes.now) c.end-said.new.self c.answer_line.new.counts) (λ fault. StopsAt c.args.strict held (g.W.CountedWrite.held c.answer_line.new.writer) old (seen_as g.K.Keeper.keeps g.T.TableState c.answer_line.new.file) (ended_lines (taken ++ c.args.bytes.now)) fault)) (sym (told.1 ∙ ap Err told.2))
+    subst (λ (r : Result (Unit {0}) RunFault). MatchResult r (λ _. AnsweredSoFar c.args.strict held (g.W.CountedWrite.held c.answer_line.new.writer) old (seen_as g.K.Keeper.keeps g.T.TableState c.answer_line.new.file) (taken ++ c.args.bytes.now) c.end-said.new.self c.answer_line.new.counts) (λ fault. StopsAtLine c.args.strict held (g.W.CountedWrite.held c.answer_line.new.writer) old (seen_as g.K.Keeper.keeps g.T.TableState c.answer_line.new.file) (ended_lines (taken ++ c.args.bytes.now)) fault)) (sym (told.1 ∙ ap Err told.2))
     (stops_ended c.args.strict held (g.W.CountedWrite.held c.loop-last.writer) (g.W.CountedWrite.held c.answer_line.new.writer) old _ _ (taken ++ known.0) last after (taken ++ c.args.bytes.now) c.loop-last.part c.loop-last.counts c.answer_line.new.counts c.end-said.result c.in_err-answer_line.field-0.0 known.2 c.in-Some.ensures.1 c.end-said.ensures.said
     (ap (λ (text : List ℕ). taken ++ text) (cut_off c.args.bytes.now known.0 c.loop-last.rest.now last after known.1 c.in-Some.ensures.0) ∙ sym (append_assoc taken known.0 (last ++ 10 ∷ after)))
     c.in_err-answer_line.ensures.stops c.answer_line.ensures.done c.answer_line.ensures.lines)
