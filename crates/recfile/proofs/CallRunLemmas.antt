@@ -1,66 +1,48 @@
 -- The run of one call, from what its contract says.
-use Rattle.std.proofs.Common.{◌≡◌, Bool, false, [], ◌∷◌, ℕ, List, Option, Some, None, Result, IfSome, if◌then◌else◌, refl, sym, ap, subst}
-use Rattle.rec_types.specs.Table.{counted}
+use Rattle.std.proofs.Common.{◌≡◌, Bool, false, ◌||◌, [], ◌∷◌, ℕ, List, Option, Result, if◌then◌else◌, refl, ap}
 use Rattle.rec_types.specs.declared.table_state.TableState.{Ghosts}
-use Rattle.record_file.specs.Asked.{Asked, Asks, UndoAsks}
+use Rattle.record_file.specs.Asked.{UndoAsks}
 use Rattle.record_file.specs.declared.fault.Cause.{Cause}
 use Rattle.recfile.specs.Ending as ending
 use Rattle.command_text.specs.declared.command.Command.{Command}
+use Rattle.command_text.specs.declared.reply.Reply.{Reply}
 use Rattle.command_text.specs.Grammar.{Read}
-use Rattle.recfile.specs.Run.{CommandRan, CommandTold, SameOrigin}
-use Rattle.record_file.specs.Abstract.{OpenFile, Tells}
-use Rattle.record_file.specs.Runs.{Called, Seen, Step, Run, Answers, IsKeptSeen, cause_in, seen, seen_as, undoubted}
+use Rattle.recfile.specs.Run.{CommandRan, CommandTold, SameOrigin, ScriptTellsOf, TellsDoubt, TellsKept, ToldReply}
+use Rattle.record_file.specs.Abstract.{OpenFile}
+use Rattle.record_file.specs.Runs.{Called, Made, Run, IsKeptSeen, event_of, is_commit, seen, seen_as, undoubted}
 use Rattle.record_file.specs.Seen.{doubt_of}
-use Rattle.record_file.specs.declared.refusal.Refusal.{Refusal}
-use Rattle.record_file.specs.Outside.{NeverDamaged}
-use Rattle.record_file.proofs.CallStepLemmas.{names_none, same_but_file}
-use Rattle.record_file.proofs.LogGrowthLemmas.{tells_none}
-
--- what is seen besides the commit in doubt, where the table and the log stay
-pub file_undoubted : {T : Type 0} (t : Ghosts T) (old new : OpenFile T) → new.table ≡ old.table → new.log ≡ old.log → (logged : Bool) → undoubted (seen_as logged t new) ≡ record (undoubted (seen_as logged t old)) { file = new.file }
-file_undoubted t old new table log logged = ap undoubted (same_but_file t old new table log logged)
-
--- where a refusal leaves all
-pub refused_undoubted : {T : Type 0} (t : Ghosts T) (logged : Bool) (old new : OpenFile T) (first told : Option Refusal) → IfSome first (λ refusal. (told ≡ Some refusal) × (new ≡ old)) → IfSome first (λ refusal. (told ≡ Some refusal) × (undoubted (seen_as logged t new) ≡ undoubted (seen_as logged t old)))
-refused_undoubted t logged old new None told is = is
-refused_undoubted t logged old new (Some refusal) told is = (is.0, ap (λ (f : OpenFile _). undoubted (seen_as logged t f)) is.1)
+use Rattle.record_file.proofs.CallStepLemmas.{step_of}
 
 -- the commit in doubt stays where what the table was made of does
 pub same_doubt : {T : Type 0} (logged : Bool) (t : Ghosts T) (old new : T) → t.sound new ≡ t.sound old → t.origin new ≡ t.origin old → doubt_of logged t new ≡ doubt_of logged t old
 same_doubt logged t old new sound origin i = if logged then (if sound i then t.doubt (origin i) else []) else []
 
--- a call that asks the table nothing
-pub quiet_step : (old new : Seen) (called : Called) → cause_in called ≡ None → IsKeptSeen old → IsKeptSeen new → new ≡ record old { file = new.file } → Answers old called false false new → Step old (record { called = called; failed = false; refused = false }) new
-quiet_step old new called no_cause was is same answer = record {
-  kept = was;
-  keeps = is;
-  undamaged = subst (NeverDamaged old.sound) (sym no_cause) (names_none old.sound);
-  failures = ap (λ (s : Seen). s.failures) same;
-  refusals = ap (λ (s : Seen). s.refusals) same;
-  sound = ap (λ (s : Seen). s.sound) same;
-  logged = ap (λ (s : Seen). s.logged) same;
-  commits = λ _. ap (λ (s : Seen). s.commits) same;
-  told = tells_none old.sound old.records new.records old.log new.log (ap (λ (s : Seen). s.records) same) (ap (λ (s : Seen). s.log) same);
-  answer = answer;
+-- the theorem of a call is the run of its event
+pub one_ran : {T : Type 0} (t : Ghosts T) (logged : Bool) (old new : OpenFile T) (called : Called) (made : Made t old called new) → IsKeptSeen (seen_as logged t old) → IsKeptSeen (seen_as logged t new) → Run (undoubted (seen_as logged t old)) (event_of called made.refused ∷ []) (undoubted (seen_as logged t new))
+one_ran t logged old new called made was is = (undoubted (seen_as logged t new), step_of t logged old new called made was is, refl)
+
+-- so a command that makes one call has its reply
+pub told_by : {T E : Type 0} (t : Ghosts T) (old new : OpenFile T) (called : Called) (made : Made t old called new) (entry : Read Command) (reply : Reply) (answer : Result Bool E) (text : List ℕ)
+    → ((logged : Bool) → ScriptTellsOf logged entry reply (called ∷ [])) → ((logged : Bool) → TellsKept (seen_as logged t old) entry reply (seen_as logged t new)) → ((logged : Bool) → doubt_of logged t new.table ≡ doubt_of logged t old.table → TellsDoubt (seen_as logged t old) entry reply (seen_as logged t new)) → is_commit called ≡ false
+    → ToldReply reply answer text → CommandTold t (SameOrigin t) old entry answer text new
+told_by t old new called made entry reply answer text says kept doubt no_commit told = record {
+  told = λ logged was is. (
+    reply,
+    record {
+      events = event_of called made.refused ∷ [];
+      told = says logged;
+      kept = kept logged;
+      doubt = doubt logged (same_doubt logged t old.table new.table made.happens.sound made.origin);
+      alone = λ _. ap (λ b. b || false) no_commit;
+      ran = one_ran t logged old new called made was is;
+    },
+    told,
+  );
+  moves_so = made.origin;
 }
 
--- a call in which nothing fails from outside is a run of one event
-pub quiet : (old new : Seen) (called : Called) → cause_in called ≡ None → IsKeptSeen old → IsKeptSeen new → new ≡ record old { file = new.file } → Answers old called false false new → Run old (record { called = called; failed = false; refused = false } ∷ []) new
-quiet old new called no_cause was is same answer = (new, quiet_step old new called no_cause was is same answer, refl)
-
--- a call that asks the table
-pub asks : (old new : Seen) (called : Called) (failed refused : Bool) → new.failures ≡ counted old.failures failed → new.refusals ≡ counted old.refusals refused → new.sound ≡ old.sound → new.logged ≡ old.logged → new.commits ≡ old.commits → Tells old.sound old.records old.log new.records new.log → NeverDamaged old.sound (cause_in called) → IsKeptSeen old → IsKeptSeen new → Answers old called failed refused new
-    → Run old (record { called = called; failed = failed; refused = refused } ∷ []) new
-asks old new called failed refused failures refusals sound logged commits told undamaged was is answer = (new, record { kept = was; keeps = is; undamaged = undamaged; failures = failures; refusals = refusals; sound = sound; logged = logged; commits = λ _. commits; told = told; answer = answer }, refl)
-
--- what a call asks of its table doesn't depend on whether commits are kept
+-- what an ending asks of its table doesn't depend on whether commits are kept
 module _ {T : Type 0} (t : Ghosts T) (logged : Bool) (old new : OpenFile T) (cause : Option Cause) where
-  pub asks_as : (may : Asked → Type 0) → Asks may (seen t old) cause (seen t new) → Asks may (undoubted (seen_as logged t old)) cause (undoubted (seen_as logged t new))
-  asks_as may told = record { asked = told.asked; allowed = told.allowed; calls = told.calls; lost = told.lost }
-
-  pub undo_as : UndoAsks (seen t old) cause (seen t new) → UndoAsks (undoubted (seen_as logged t old)) cause (undoubted (seen_as logged t new))
-  undo_as told = record { more = told.more; no_room = told.no_room; grown = told.grown; sets = told.sets; gets = told.gets; lists = told.lists; no_rooms = told.no_rooms; lost = told.lost }
-
   undo_seen : UndoAsks (seen t old) cause (seen t new) → UndoAsks (seen_as logged t old) cause (seen_as logged t new)
   undo_seen told = record { more = told.more; no_room = told.no_room; grown = told.grown; sets = told.sets; gets = told.gets; lists = told.lists; no_rooms = told.no_rooms; lost = told.lost }
 

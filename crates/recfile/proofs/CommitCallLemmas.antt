@@ -46,14 +46,16 @@ module _ {T : Type 0} (t : Ghosts T) (old new : OpenFile T) (same : SameTable t 
     record {
       kept = was;
       keeps = is;
-      undamaged = names_none (t.sound old.table);
-      failures = same.device;
-      refusals = same.memory;
-      sound = same.soundness;
-      logged = refl;
-      commits = commits;
-      told = tells_none (t.sound old.table) (t.contents old.table) (t.contents new.table) old.log new.log same.contents log;
-      answer = ((refl, refl, rest_same keeps), step);
+      happens = record {
+        undamaged = names_none (t.sound old.table);
+        failures = same.device;
+        refusals = same.memory;
+        sound = same.soundness;
+        logged = refl;
+        commits = commits;
+        told = tells_none (t.sound old.table) (t.contents old.table) (t.contents new.table) old.log new.log same.contents log;
+        answer = ((refl, refl, rest_same keeps), step);
+      };
     },
     refl,
   )

@@ -153,24 +153,24 @@ begun : (old new : Seen) (answer : Reply) → HasReply old (Ok command.Begin) an
 begun old new answer reply accepted =
     let told = told_begin old.logged answer (map (λ e. e.called) reply.events) reply.told accepted in
     let step = one_step (undoubted old) (undoubted new) reply.events (Begin told.0) told.1 reply.ran in
-    let same = subst (λ (called : Called). Answers (undoubted old) called step.0.failed step.0.refused (undoubted new)) step.1 step.2.answer in
-    record { records = ap (λ (s : Seen). s.records) same.0.2; sound = step.2.sound }
+    let same = subst (λ (called : Called). Answers (undoubted old) called step.0.failed step.0.refused (undoubted new)) step.1 step.2.happens.answer in
+    record { records = ap (λ (s : Seen). s.records) same.0.2; sound = step.2.happens.sound }
 
 committed : (old new : Seen) (answer : Reply) → HasReply old (Ok (command.Commit (tx 1))) answer new → is_refusal answer ≡ false → Leads old old.records new
 committed old new answer reply accepted =
     let told = told_commit old.logged answer (map (λ e. e.called) reply.events) reply.told accepted in
     let step = one_step (undoubted old) (undoubted new) reply.events (Commit (tx 1) told.0) told.1 reply.ran in
-    let same = subst (λ (called : Called). Answers (undoubted old) called step.0.failed step.0.refused (undoubted new)) step.1 step.2.answer in
-    record { records = ap (λ (s : Seen). s.records) same.0.2; sound = step.2.sound }
+    let same = subst (λ (called : Called). Answers (undoubted old) called step.0.failed step.0.refused (undoubted new)) step.1 step.2.happens.answer in
+    record { records = ap (λ (s : Seen). s.records) same.0.2; sound = step.2.happens.sound }
 
 put : (old new : Seen) (e : List ℕ × List ℕ) (answer : Reply) → HasReply old (put_of e) answer new → is_refusal answer ≡ false → IsTrue old.sound → Leads old (insert old.records e.0 e.1) new
 put old new e answer reply accepted sound =
     let told = told_put old.logged e answer (map (λ e. e.called) reply.events) reply.told accepted in
     let step = one_step (undoubted old) (undoubted new) reply.events (Put (tx 1) e.0 e.1 (Ok told.0)) told.1 reply.ran in
-    let known = subst (λ (called : Called). Answers (undoubted old) called step.0.failed step.0.refused (undoubted new)) step.1 step.2.answer in
+    let known = subst (λ (called : Called). Answers (undoubted old) called step.0.failed step.0.refused (undoubted new)) step.1 step.2.happens.answer in
     let logged = known.1.accepted.logged in
-    let more = append_cancel_left old.log step.2.told.0 _ (sym step.2.told.1 ∙ logged) in
-    record { records = step.2.told.2 sound ∙ ap (written old.records) more; sound = step.2.sound }
+    let more = append_cancel_left old.log step.2.happens.told.0 _ (sym step.2.happens.told.1 ∙ logged) in
+    record { records = step.2.happens.told.2 sound ∙ ap (written old.records) more; sound = step.2.happens.sound }
 
 -- the commands of a dump put each element
 loaded : (old new : Seen) (es : List (List ℕ × List ℕ)) (replies : List Reply) → Session old (map put_of es ++ Ok (command.Commit (tx 1)) ∷ []) replies new → All (λ r. is_refusal r ≡ false) replies → IsTrue old.sound → new.records ≡ inserted old.records es

@@ -84,7 +84,7 @@ log_grows : (events : List Event) (old new : Seen) → Run old events new → (m
 log_grows [] old new ran = ([], ap (λ (s : Seen). s.log) ran ∙ sym (append-nil old.log))
 log_grows (e ∷ events) old new ran =
     let rest = log_grows events ran.0 new ran.2 in
-    (ran.1.told.0 ++ rest.0, rest.1 ∙ ap (λ (l : List LogRecord). l ++ rest.0) ran.1.told.1 ∙ append_assoc old.log ran.1.told.0 rest.0)
+    (ran.1.happens.told.0 ++ rest.0, rest.1 ∙ ap (λ (l : List LogRecord). l ++ rest.0) ran.1.happens.told.1 ∙ append_assoc old.log ran.1.happens.told.0 rest.0)
 
 no_front : (front rest : List LogRecord) → [] ≡ front ++ rest → front ≡ []
 no_front [] rest is = refl

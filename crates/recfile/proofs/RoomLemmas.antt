@@ -262,16 +262,16 @@ rest_accepted limits done [] count old new (answer ∷ []) room fits before ran 
     let step = ran.1 in
     let told = commit_told old.logged answer (map (λ e. e.called) step.events) (All-head (λ r. was_kept r ≡ false) answer [] kept) step.told in
     let one = one_step (undoubted old) (undoubted ran.0) step.events (Commit (tx 1) told.0) told.2 step.ran in
-    let known = subst (λ (called : Called). Answers (undoubted old) called one.0.failed one.0.refused (undoubted ran.0)) one.1 one.2.answer in
+    let known = subst (λ (called : Called). Answers (undoubted old) called one.0.failed one.0.refused (undoubted ran.0)) one.1 one.2.happens.answer in
     All-cons (λ r. is_refusal r ≡ false) answer [] (ap is_refusal told.1 ∙ commit_done limits done (undoubted old) (undoubted ran.0) told.0 one.0.failed one.0.refused (cleared limits done old before) known) (All-nil (λ r. is_refusal r ≡ false))
 rest_accepted limits done (e ∷ es) count old new [] room fits before ran kept = absurd ran
 rest_accepted limits done (e ∷ es) count old new (answer ∷ replies) room fits before ran kept =
     let step = ran.1 in
     let told = put_told old.logged e answer (map (λ e. e.called) step.events) step.told in
     let one = one_step (undoubted old) (undoubted ran.0) step.events (Put (tx 1) e.0 e.1 told.0) told.2 step.ran in
-    let known = subst (λ (called : Called). Answers (undoubted old) called one.0.failed one.0.refused (undoubted ran.0)) one.1 one.2.answer in
+    let known = subst (λ (called : Called). Answers (undoubted old) called one.0.failed one.0.refused (undoubted ran.0)) one.1 one.2.happens.answer in
     let unkept = sym (ap was_kept told.1) ∙ All-head (λ r. was_kept r ≡ false) answer replies kept in
-    let put = put_done limits done e (undoubted old) (undoubted ran.0) told.0 one.0.failed one.0.refused (cleared limits done old before) (omega (arith, room.log, fits)) (omega (arith, room.records, fits)) unkept one.2.failures one.2.sound known in
+    let put = put_done limits done e (undoubted old) (undoubted ran.0) told.0 one.0.failed one.0.refused (cleared limits done old before) (omega (arith, room.log, fits)) (omega (arith, room.records, fits)) unkept one.2.happens.failures one.2.happens.sound known in
     All-cons (λ r. is_refusal r ≡ false) answer replies (ap is_refusal told.1 ∙ put.accepted)
     (rest_accepted limits (done ++ e ∷ []) es count ran.0 new replies room (omega (arith, fits, length-append done (e ∷ []))) (uncleared limits (done ++ e ∷ []) ran.0 put.loaded) ran.2 (All-tail (λ r. was_kept r ≡ false) answer replies kept))
 
@@ -310,9 +310,9 @@ all_accepted limits es old new (answer ∷ replies) is sound few room ran kept =
     let step = ran.1 in
     let told = begin_told old.logged answer (map (λ e. e.called) step.events) step.told in
     let one = one_step (undoubted old) (undoubted ran.0) step.events (Begin told.0) told.2 step.ran in
-    let known = subst (λ (called : Called). Answers (undoubted old) called one.0.failed one.0.refused (undoubted ran.0)) one.1 one.2.answer in
+    let known = subst (λ (called : Called). Answers (undoubted old) called one.0.failed one.0.refused (undoubted ran.0)) one.1 one.2.happens.answer in
     let unkept = sym (ap was_kept told.1) ∙ All-head (λ r. was_kept r ≡ false) answer replies kept in
-    let begun = begin_done limits (undoubted old) (undoubted ran.0) told.0 one.0.failed one.0.refused is sound few room.begins unkept one.2.failures one.2.sound known in
+    let begun = begin_done limits (undoubted old) (undoubted ran.0) told.0 one.0.failed one.0.refused is sound few room.begins unkept one.2.happens.failures one.2.happens.sound known in
     All-cons (λ r. is_refusal r ≡ false) answer replies (ap is_refusal told.1 ∙ begun.accepted)
     (rest_accepted limits [] es (length es) ran.0 new replies room (omega arith) (uncleared limits [] ran.0 begun.loaded) ran.2 (All-tail (λ r. was_kept r ≡ false) answer replies kept))
 

@@ -142,9 +142,9 @@ quiet_made old new (e ∷ es) ran none =
     let not = first_not (is_commit e.called) (list_any (λ f. is_commit f.called) es) none in
     let later = quiet_made ran.0 new es ran.2 (later_not (is_commit e.called) (list_any (λ f. is_commit f.called) es) none) in (
       (ran.0, ran.1, [], [], refl, keeps_none old e.called not, later.0),
-      later.1 ∙ ran.1.commits not,
-      later.2 ∙ ran.1.sound,
-      later.3 ∙ ran.1.logged,
+      later.1 ∙ ran.1.happens.commits not,
+      later.2 ∙ ran.1.happens.sound,
+      later.3 ∙ ran.1.happens.logged,
     )
 
 -- a command that is a commit, whose reply says that it was accepted
@@ -196,8 +196,8 @@ commit_made old new t [] e called ran undoubts is adds = record {
   says = tt;
   events = e ∷ [];
   ran = (ran.0, ran.1, [], [], refl, subst (λ (c : Called). Keeps old.file c []) (sym called) (λ m. ap (overlay m) is ∙ writes-replay m (own t.0 old.file.history)), (ran.2, refl));
-  sound = ap (λ (s : Seen). s.sound) ran.2 ∙ ran.1.sound;
-  logged = ap (λ (s : Seen). s.logged) ran.2 ∙ ran.1.logged;
+  sound = ap (λ (s : Seen). s.sound) ran.2 ∙ ran.1.happens.sound;
+  logged = ap (λ (s : Seen). s.logged) ran.2 ∙ ran.1.happens.logged;
   doubted = inl undoubts;
 }
 commit_made old new t (w ∷ ws) e called ran undoubts is adds = record {
@@ -207,8 +207,8 @@ commit_made old new t (w ∷ ws) e called ran undoubts is adds = record {
   says = (adds.0, adds.2, tt);
   events = e ∷ [];
   ran = (ran.0, ran.1, w ∷ ws, [], refl, subst (λ (c : Called). Keeps old.file c (w ∷ ws)) (sym called) (λ m. ap (overlay m) is ∙ writes-replay m (own t.0 old.file.history)), (ran.2, refl));
-  sound = ap (λ (s : Seen). s.sound) ran.2 ∙ ran.1.sound;
-  logged = ap (λ (s : Seen). s.logged) ran.2 ∙ ran.1.logged;
+  sound = ap (λ (s : Seen). s.sound) ran.2 ∙ ran.1.happens.sound;
+  logged = ap (λ (s : Seen). s.logged) ran.2 ∙ ran.1.happens.logged;
   doubted = inl undoubts;
 }
 

@@ -72,7 +72,7 @@ module _ (P : Seen → Seen → Type 0) (none : (s : Seen) → P s s) (on : (a b
 -- a table stays sound
 sound_run : (old new : Seen) (events : List Event) → Run old events new → new.sound ≡ old.sound
 sound_run old new [] ran = ap (λ (s : Seen). s.sound) ran
-sound_run old new (e ∷ es) ran = sound_run ran.0 new es ran.2 ∙ ran.1.sound
+sound_run old new (e ∷ es) ran = sound_run ran.0 new es ran.2 ∙ ran.1.happens.sound
 
 pub sound_ran : (manner : Manner) (answer : Result ℕ RunFault) (left leaves held holds : Option (List ℕ)) (old new : Seen) → RanAs manner left leaves held holds old new answer → new.sound ≡ old.sound
 sound_ran manner answer left leaves held holds old new ran =

@@ -1,17 +1,14 @@
 -- What the calls do to a file behind a handle.
-use Rattle.std.specs.Prelude.{◌≡◌, ℕ, ℤ, pos, ◌<◌, Bool, List, Option, Some, None, Result, Ok, Err, IsTrue}
-use Rattle.std.specs.FinMap as maps
-use Rattle.rec_types.specs.Table.{greatest_count}
-use Rattle.rec_types.specs.History.{log_len}
+use Rattle.std.specs.Prelude.{◌≡◌, ℕ, ℤ, pos, List, Option, Some, None, Result, Ok, Err}
 use Rattle.rec_types.specs.declared.key.KeyFault.{KeyFault}
 use Rattle.rec_types.specs.declared.key.KeyFault.TheVariants.{Empty, TooLong}
 use Rattle.rec_types.specs.declared.record.RecordFault.{RecordFault}
 use Rattle.rec_types.specs.declared.transaction.TxId.{TxId}
-use Rattle.tx_log.specs.Log.{record_at}
 use Rattle.tx_log.specs.declared.phase.BeginFault.{BeginFault}
 use Rattle.tx_log.specs.declared.log_record.LogRecord.{LogRecord}
-use Rattle.record_file.specs.Abstract.{OpenFile, Tells, charged_of, use_of}
-use Rattle.record_file.specs.Steps.{rose, BeginStep, PutStep, ClaimStep, RemoveStep, GetStep, SavepointStep, ReleaseStep, CommitStep, RollbackToStep, AbortStep, ResumeStep, status_of}
+use Rattle.record_file.specs.Abstract.{OpenFile}
+use Rattle.record_file.specs.Runs.{Called, Made}
+use Rattle.record_file.specs.Runs as calls
 use Rattle.record_file.specs.declared.fault.PutFault.{PutFault}
 use Rattle.record_file.specs.declared.fault.ClaimFault.{ClaimFault}
 use Rattle.record_file.specs.declared.fault.RemoveFault.{RemoveFault}
@@ -22,13 +19,15 @@ use Rattle.record_file.specs.declared.fault.RollbackToFault.{RollbackToFault}
 use Rattle.record_file.specs.declared.fault.AbortFault.{AbortFault}
 use Rattle.record_file.specs.declared.fault.ResumeFault.{ResumeFault}
 use Rattle.record_file.specs.declared.fault.CommitFault.{CommitFault}
+use Rattle.record_file.specs.declared.fault.StatusFault.{StatusFault}
+use Rattle.record_file.specs.declared.fault.Status.{Status}
 use Rattle.recfile_c.specs.declared.file_table.FileTable.{FileTable}
 use Rattle.recfile_c.specs.declared.held.Held.{Held}
 use Rattle.recfile_c.specs.declared.held.Held.TheVariants.{Open}
 use Rattle.recfile_c.specs.declared.held.Session.{Session}
 use Rattle.recfile_c.specs.declared.outcome.Outcome.{Outcome}
 use Rattle.recfile_c.specs.declared.shown.TxStatus.{TxStatus}
-use Rattle.recfile_c.specs.FileTables.{contents_in, is_sound, failures_in, refusals_in, origin_in}
+use Rattle.recfile_c.specs.FileTables.{file_tables}
 use Rattle.recfile_c.specs.Answers.{found_in, taken_in, number_in, begun_in, TellsStatus}
 use Rattle.record_file.specs.Refusals.{begin_refusal, put_refusal, claim_refusal, remove_refusal, get_refusal, savepoint_refusal, release_refusal, rollback_refusal, abort_refusal, resume_refusal, commit_refusal, status_refusal}
 use Rattle.recfile_c.specs.Outcomes.{just, empty_key, long_key, long_record, ok, outcome_by}
@@ -52,41 +51,25 @@ OnHandle nothing None new step = nothing × (new ≡ None)
 abbrev pub InFile : (FileState → FileState → Type 0) → Session → Session → Type 0
 InFile step old new = step old.file new.file × (new ≡ record old { file = new.file })
 
--- over a sound table, while its failures and refusals can be counted
-abbrev pub Sure : FileState → Type 0 → Type 0
-Sure old says = IsTrue (is_sound old.table) → failures_in old.table < greatest_count → refusals_in old.table < greatest_count → says
+-- what a call of a file does, behind a handle as anywhere
+abbrev pub MadeThere : FileState → Called → FileState → Type 0
+MadeThere old called new = Made file_tables old called new
 
--- whether the device failed between the two
-abbrev pub failed : FileState → FileState → Bool
-failed old new = rose (failures_in old.table) (failures_in new.table)
-
--- whether memory was refused between the two
-abbrev pub refused : FileState → FileState → Bool
-refused old new = rose (refusals_in old.table) (refusals_in new.table)
-
--- the table is as sound as before, over the same pages that were handed in
-abbrev pub SameGround : FileState → FileState → Type 0
-SameGround old new = (is_sound new.table ≡ is_sound old.table) × (origin_in new.table ≡ origin_in old.table)
-
--- the same, and the log tells what became of the table's records
-abbrev pub KeepsFileState : FileState → FileState → Type 0
-KeepsFileState old new = SameGround old new × Tells (is_sound old.table) (contents_in old.table) old.log (contents_in new.table) new.log
-
--- neither the table nor the log is touched
-abbrev pub Spares : FileState → FileState → Type 0
-Spares old new = (new.table ≡ old.table) × (new.log ≡ old.log)
+-- a look, which leaves the file
+abbrev pub Looked : FileState → Called → FileState → Type 0
+Looked old called new = MadeThere old called new × (new ≡ old)
 
 -- the calls
 
 abbrev pub Begin : ℤ → ℕ → FileState → FileState → Type 0
 Begin status tx old new =
     (answer : Result TxId BeginFault) × (status ≡ (outcome_by begin_refusal answer).status) × (tx ≡ begun_in answer)
-    × BeginStep old.file answer new.file × Spares old new
+    × MadeThere old (calls.Begin answer) new
 
 abbrev pub Put : TxId → List ℕ → List ℕ → Outcome → Option (List ℕ) → FileState → FileState → Type 0
 Put t x r told before old new =
     (answer : Result (Option (List ℕ)) PutFault) × (told ≡ outcome_by put_refusal answer) × (before ≡ found_in answer)
-    × Sure old (PutStep old.file t.0 x r (failed old new) answer new.file) × KeepsFileState old new
+    × MadeThere old (calls.Put t x r answer) new
 
 -- bytes that are no key, and bytes that are no record
 abbrev pub PutBytes : TxId → Result (List ℕ) KeyFault → Result (List ℕ) RecordFault → Outcome → Option (List ℕ) → FileState → FileState → Type 0
@@ -98,7 +81,7 @@ PutBytes t (Ok x) (Ok r) told before old new = Put t x r told before old new
 abbrev pub Claim : TxId → List ℕ → Outcome → Option (List ℕ) → FileState → FileState → Type 0
 Claim t x told seen old new =
     (answer : Result (Option (List ℕ)) ClaimFault) × (told ≡ outcome_by claim_refusal answer) × (seen ≡ found_in answer)
-    × Sure old (ClaimStep old.file t.0 x (failed old new) answer new.file) × KeepsFileState old new
+    × MadeThere old (calls.Claim t x answer) new
 
 abbrev pub ClaimBytes : TxId → Result (List ℕ) KeyFault → Outcome → Option (List ℕ) → FileState → FileState → Type 0
 ClaimBytes t (Err Empty) told seen old new = (told ≡ just empty_key) × (seen ≡ None) × (new ≡ old)
@@ -108,7 +91,7 @@ ClaimBytes t (Ok x) told seen old new = Claim t x told seen old new
 abbrev pub Remove : TxId → List ℕ → Outcome → Option (List ℕ) → FileState → FileState → Type 0
 Remove t x told taken old new =
     (answer : Result (List ℕ) RemoveFault) × (told ≡ outcome_by remove_refusal answer) × (taken ≡ taken_in answer)
-    × Sure old (RemoveStep old.file t.0 x (failed old new) answer new.file) × KeepsFileState old new
+    × MadeThere old (calls.Remove t x answer) new
 
 abbrev pub RemoveBytes : TxId → Result (List ℕ) KeyFault → Outcome → Option (List ℕ) → FileState → FileState → Type 0
 RemoveBytes t (Err Empty) told taken old new = (told ≡ just empty_key) × (taken ≡ None) × (new ≡ old)
@@ -118,8 +101,7 @@ RemoveBytes t (Ok x) told taken old new = Remove t x told taken old new
 abbrev pub Get : TxId → List ℕ → Outcome → Option (List ℕ) → FileState → FileState → Type 0
 Get t x told found old new =
     (answer : Result (Option (List ℕ)) GetFault) × (told ≡ outcome_by get_refusal answer) × (found ≡ found_in answer)
-    × Sure old (GetStep old.file t.0 x (failed old new) answer new.file)
-    × SameGround old new × (contents_in new.table ≡ contents_in old.table) × (new.log ≡ old.log)
+    × MadeThere old (calls.Get t x answer) new
 
 abbrev pub GetBytes : TxId → Result (List ℕ) KeyFault → Outcome → Option (List ℕ) → FileState → FileState → Type 0
 GetBytes t (Err Empty) told found old new = (told ≡ just empty_key) × (found ≡ None) × (new ≡ old)
@@ -129,51 +111,51 @@ GetBytes t (Ok x) told found old new = Get t x told found old new
 abbrev pub Savepoint : TxId → ℤ → ℕ → FileState → FileState → Type 0
 Savepoint t status n old new =
     (answer : Result ℕ SavepointFault) × (status ≡ (outcome_by savepoint_refusal answer).status) × (n ≡ number_in answer)
-    × SavepointStep old.file t.0 answer new.file × Spares old new
+    × MadeThere old (calls.Savepoint t answer) new
 
 abbrev pub Release : TxId → ℕ → ℤ → FileState → FileState → Type 0
 Release t n status old new =
     (answer : Result (Unit {0}) ReleaseFault) × (status ≡ (outcome_by release_refusal answer).status)
-    × ReleaseStep old.file t.0 n answer new.file × Spares old new
+    × MadeThere old (calls.Release t n answer) new
 
 abbrev pub RollbackTo : TxId → ℕ → Outcome → ℕ → FileState → FileState → Type 0
 RollbackTo t n told undone old new =
     (answer : Result ℕ RollbackToFault) × (told ≡ outcome_by rollback_refusal answer) × (undone ≡ number_in answer)
-    × Sure old (RollbackToStep old.file t.0 n (failed old new) (refused old new) answer new.file) × KeepsFileState old new
+    × MadeThere old (calls.RollbackTo t n answer) new
 
 abbrev pub Abort : TxId → Outcome → ℕ → FileState → FileState → Type 0
 Abort t told undone old new =
     (answer : Result ℕ AbortFault) × (told ≡ outcome_by abort_refusal answer) × (undone ≡ number_in answer)
-    × Sure old (AbortStep old.file t.0 (failed old new) (refused old new) answer new.file) × KeepsFileState old new
+    × MadeThere old (calls.Abort t answer) new
 
 abbrev pub Resume : TxId → Outcome → ℕ → FileState → FileState → Type 0
 Resume t told undone old new =
     (answer : Result ℕ ResumeFault) × (told ≡ outcome_by resume_refusal answer) × (undone ≡ number_in answer)
-    × Sure old (ResumeStep old.file t.0 (failed old new) (refused old new) answer new.file) × KeepsFileState old new
+    × MadeThere old (calls.Resume t answer) new
 
 abbrev pub Commit : TxId → ℤ → FileState → FileState → Type 0
 Commit t status old new =
     (answer : Result (Unit {0}) CommitFault) × (status ≡ (outcome_by commit_refusal answer).status)
-    × CommitStep old.file t.0 answer new.file × Spares old new
+    × MadeThere old (calls.Commit t answer) new
 
 -- looks
 
 abbrev pub StatusOf : TxId → ℤ → TxStatus → FileState → FileState → Type 0
 StatusOf t status told old new =
-    (status ≡ (outcome_by status_refusal (status_of old.file t.0)).status) × TellsStatus (status_of old.file t.0) told × (new ≡ old)
+    (answer : Result Status StatusFault) × (status ≡ (outcome_by status_refusal answer).status) × TellsStatus answer told
+    × Looked old (calls.StatusOf t answer) new
 
 abbrev pub Charged : ℤ → ℕ → FileState → FileState → Type 0
-Charged status n old new =
-    (status ≡ pos ok) × (IsTrue (is_sound old.table) → n ≡ maps.len (charged_of old.file)) × (new ≡ old)
+Charged status n old new = (status ≡ pos ok) × Looked old (calls.Charged n) new
 
 abbrev pub Begun : ℤ → ℕ → FileState → FileState → Type 0
-Begun status n old new = (status ≡ pos ok) × (n ≡ old.file.begun) × (new ≡ old)
+Begun status n old new = (status ≡ pos ok) × Looked old (calls.Begun n) new
 
 abbrev pub LogLen : ℤ → ℕ → FileState → FileState → Type 0
-LogLen status n old new = (status ≡ pos ok) × (n ≡ log_len old.file.history) × (new ≡ old)
+LogLen status n old new = (status ≡ pos ok) × Looked old (calls.LogLen n) new
 
 abbrev pub LogUse : ℤ → ℕ → FileState → FileState → Type 0
-LogUse status n old new = (status ≡ pos ok) × (n ≡ use_of old.file) × (new ≡ old)
+LogUse status n old new = (status ≡ pos ok) × Looked old (calls.LogUse n) new
 
 abbrev pub RecordAt : ℕ → ℤ → Option LogRecord → FileState → FileState → Type 0
-RecordAt lsn status entry old new = (status ≡ pos ok) × (entry ≡ record_at old.log lsn) × (new ≡ old)
+RecordAt lsn status entry old new = (status ≡ pos ok) × Looked old (calls.RecordAt lsn entry) new

@@ -1,8 +1,9 @@
 -- A table of one of two kinds, as one table.
-use Rattle.std.specs.Prelude.{ℕ, Bool, true, Option, Some, None}
+use Rattle.std.specs.Prelude.{ℕ, Bool, true, [], Option, Some, None}
 use Rattle.rec_types.specs.Contents.{Contents}
 use Rattle.rec_types.specs.Table.{Damages, no_damage}
 use Rattle.rec_types.specs.declared.table_calls.TableCalls.{TableCalls}
+use Rattle.rec_types.specs.declared.table_state.TableState.{Ghosts}
 use Rattle.btree_delete.specs.Origins.{Origin, origin_of as table_origin}
 use Rattle.btree_delete.specs.TableView.{table_contents}
 use Rattle.recfile_c.specs.declared.file_table.FileTable.{FileTable}
@@ -40,3 +41,7 @@ calls_of (Paged table) = table.calls
 abbrev pub origin_in : FileTable → Option Origin
 origin_in (Memory table) = None
 origin_in (Paged table) = Some (table_origin table)
+
+-- what contracts know of such a table; no commits are kept beside it
+abbrev pub file_tables : Ghosts FileTable
+file_tables = record { contents = contents_in; record_limit = limit_of; sound = is_sound; device_failures = failures_in; memory_refusals = refusals_in; damages = damages_of; calls = calls_of; Source = Option Origin; origin = origin_in; commits = λ _. []; doubt = λ _. [] }

@@ -2,17 +2,16 @@
 use Rattle.std.specs.Prelude.{◌≡◌, ℕ, ℤ, pos, List, [], length, Option, Some, None, Result, Ok, Err, slice_get}
 use Rattle.rec_types.specs.declared.transaction.Entry.{Entry}
 use Rattle.rec_types.specs.declared.transaction.TxId.{TxId}
-use Rattle.record_file.specs.Steps.{EntriesStep, KeysOfStep}
+use Rattle.record_file.specs.Runs.{Entries, KeysOf}
 use Rattle.record_file.specs.declared.fault.EntriesFault.{EntriesFault}
 use Rattle.record_file.specs.declared.fault.KeysOfFault.{KeysOfFault}
 use Rattle.recfile_c.specs.declared.held.Session.{Session}
 use Rattle.recfile_c.specs.declared.outcome.Outcome.{Outcome}
 use Rattle.recfile_c.specs.declared.shown.ListedEntry.{ListedEntry}
-use Rattle.recfile_c.specs.FileTables.{contents_in}
 use Rattle.recfile_c.specs.Shown.{ShowsEntry, IsNoEntry}
 use Rattle.record_file.specs.Refusals.{entries_refusal, keys_of_refusal}
 use Rattle.recfile_c.specs.Outcomes.{ok, no_such_entry, outcome_by}
-use Rattle.recfile_c.specs.Calls.{Sure, SameGround, failed}
+use Rattle.recfile_c.specs.Calls.{MadeThere, Looked}
 
 -- the list that an answer has, and else none
 abbrev pub list_in : {X E : Type 0} → Result (List X) E → List X
@@ -23,15 +22,13 @@ list_in (Err fault) = []
 abbrev pub ListsEntries : Outcome → ℕ → Session → Session → Type 0
 ListsEntries told n old new =
     (answer : Result (List Entry) EntriesFault) × (told ≡ outcome_by entries_refusal answer) × (n ≡ length (list_in answer))
-    × Sure old.file (EntriesStep old.file.file (failed old.file new.file) answer new.file.file)
-    × SameGround old.file new.file × (contents_in new.file.table ≡ contents_in old.file.table)
-    × (new.file.log ≡ old.file.log) × (new.entries.items ≡ list_in answer) × (new.keys ≡ old.keys)
+    × MadeThere old.file (Entries answer) new.file × (new.entries.items ≡ list_in answer) × (new.keys ≡ old.keys)
 
 -- the keys of a transaction are listed, and the list is kept; the records listed last stay
 abbrev pub ListsKeys : TxId → ℤ → ℕ → Session → Session → Type 0
 ListsKeys t status n old new =
     (answer : Result (List (List ℕ)) KeysOfFault) × (status ≡ (outcome_by keys_of_refusal answer).status) × (n ≡ length (list_in answer))
-    × KeysOfStep old.file.file t.0 answer × (new.file ≡ old.file)
+    × Looked old.file (KeysOf t answer) new.file
     × (new.keys.items ≡ list_in answer) × (new.entries ≡ old.entries)
 
 -- the i-th entry of the list, from 0, where there is one

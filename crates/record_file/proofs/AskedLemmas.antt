@@ -19,7 +19,7 @@ use Rattle.tx_log.specs.declared.phase.Phase.TheVariants as phases
 use Rattle.record_file.specs.Abstract.{File, OpenFile, open_of, charged_of, phase_at, held_by}
 use Rattle.record_file.specs.Asked.{Asked, after_asking, looked_unless, TellsLost, UndoAsks, may_be_full, restores, sets_told}
 use Rattle.record_file.specs.Outside.{cause_of, named_by}
-use Rattle.record_file.specs.Refusals.{put_refusal, remove_refusal, refusal_by, cause_in_refusal}
+use Rattle.record_file.specs.Refusals.{put_refusal, remove_refusal, refusal_by, cause_in_refusal, by_file}
 use Rattle.record_file.specs.Seen.{Seen, seen}
 use Rattle.record_file.specs.Steps.{active_refusal, held_refusal, key_refusal}
 use Rattle.record_file.specs.declared.refusal.Refusal.{Refusal}
@@ -113,6 +113,27 @@ without_cause changes f t x refusal is = subst (λ (o : Option Refusal). Without
     by_owner (Some owner) = refl
 
     by_phase : (o : Option Phase) → Without (active_refusal (held_refusal changes f (held_by f t x)) o)
+    by_phase None = refl
+    by_phase (Some (phases.Rolling ends)) = refl
+    by_phase (Some phases.Active) = by_owner (held_by f t x)
+
+-- and is one that the file alone decides
+pub key_by_file : (changes : Bool) (f : File) (t : ℕ) (x : List ℕ) (refusal : Refusal) → key_refusal changes f t x ≡ Some refusal → by_file refusal ≡ true
+key_by_file changes f t x refusal is = subst (λ (o : Option Refusal). ByFile o) is (by_phase (phase_at f t))
+  where
+    ByFile : Option Refusal → Type 0
+    ByFile None = Unit {0}
+    ByFile (Some refusal) = by_file refusal ≡ true
+
+    by_log : (b : Bool) → ByFile (if b then Some refusals.LogFull else None)
+    by_log true = refl
+    by_log false = tt
+
+    by_owner : (o : Option ℕ) → ByFile (held_refusal changes f o)
+    by_owner None = by_log _
+    by_owner (Some owner) = refl
+
+    by_phase : (o : Option Phase) → ByFile (active_refusal (held_refusal changes f (held_by f t x)) o)
     by_phase None = refl
     by_phase (Some (phases.Rolling ends)) = refl
     by_phase (Some phases.Active) = by_owner (held_by f t x)

@@ -169,4 +169,4 @@ move_called old new (IntoTable answer) failed refused sound still was is all ste
 
 -- each event over a sound table is one of eight kinds
 pub move_of : (old new : Seen) (e : Event) → IsTrue old.sound → Step old e new → Move old.file e.called new.file
-move_of old new e sound step = move_called old new e.called e.failed e.refused sound (step.sound ∙ sound) step.kept step.keeps step.kept.whole step.answer
+move_of old new e sound step = move_called old new e.called e.failed e.refused sound (step.happens.sound ∙ sound) step.kept step.keeps step.kept.whole step.happens.answer

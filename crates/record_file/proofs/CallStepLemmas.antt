@@ -1,22 +1,20 @@
 -- The step of one call, from what its contract says.
-use Rattle.std.proofs.Common.{◌≡◌, [], if◌then◌else◌, Bool, false, Option, Some, None, Result, Ok, Err, refl, sym, ◌∙◌, ap, subst, IfSome}
-use Rattle.std.specs.Global.{Vec}
-use Rattle.rec_types.specs.Table.{counted}
+use Rattle.std.proofs.Common.{◌≡◌, ℕ, [], if◌then◌else◌, Bool, true, false, List, Option, Some, None, Result, Ok, Err, refl, sym, ◌∙◌, ap, IfSome}
 use Rattle.rec_types.specs.declared.table_state.TableState.{Ghosts}
 use Rattle.record_file.specs.declared.fault.GetFault.{GetFault}
 use Rattle.record_file.specs.declared.fault.GetFault.TheVariants as get_faults
-use Rattle.record_file.specs.Abstract.{OpenFile, IsKeptFile, Tells}
-use Rattle.record_file.specs.declared.fault.EntriesFault.{EntriesFault}
-use Rattle.record_file.specs.Outside.{by_memory, NeverDamaged}
-use Rattle.record_file.specs.Refusals.{get_refusal, entries_refusal, cause_by}
+use Rattle.record_file.specs.Abstract.{OpenFile, IsKeptFile}
+use Rattle.record_file.specs.Asked.{Asked, Asks, UndoAsks}
+use Rattle.record_file.specs.declared.fault.Cause.{Cause}
+use Rattle.record_file.specs.Outside.{by_device, by_memory, NeverDamaged}
+use Rattle.record_file.specs.Refusals.{put_refusal, claim_refusal, remove_refusal, get_refusal, rollback_refusal, abort_refusal, resume_refusal, refusal_by, cause_by}
 use Rattle.record_file.specs.declared.refusal.Refusal.{Refusal}
-use Rattle.record_file.specs.Steps.{listed}
-use Rattle.record_file.specs.Runs.{Called, Seen, Answers, IsKeptSeen, cause_in, seen, seen_as}
+use Rattle.record_file.specs.Steps.{key_refusal, tx_refusal, returning_refusal, resuming_refusal}
+use Rattle.record_file.specs.Runs.{Called, Seen, Step, Answers, Made, IsKeptSeen, cause_in, event_of, seen, seen_as, undoubted, Begin, Put, Claim, Remove, Get, Savepoint, Release, RollbackTo, Abort, Resume, Commit, Entries, KeysOf, StatusOf, Charged, Begun, LogLen, LogUse, RecordAt, IntoTable}
 use Rattle.record_file.specs.Seen.{commits_of, doubt_of}
 use Rattle.record_file.specs.declared.call.Call.{Call}
 use Rattle.record_file.specs.declared.call.Answer.{Answer}
 use Rattle.record_file.specs.Calls.{TellsOf, Makes}
-use Rattle.record_file.proofs.LogGrowthLemmas.{tells_none}
 
 -- what a run sees where the table and the log stay
 pub same_commits : {T : Type 0} (logged : Bool) (t : Ghosts T) (old new : T) → t.sound new ≡ t.sound old → t.origin new ≡ t.origin old → commits_of logged t new ≡ commits_of logged t old
@@ -61,40 +59,77 @@ kept_seen t f kept = record {
 pub names_none : (sound : Bool) → NeverDamaged sound None
 names_none sound here page is = absurd (cc is)
 
--- a call that asks the table nothing
-pub quiet_makes : (old new : Seen) (asked : Call) (told : Answer) (called : Called) → TellsOf asked told called → new ≡ record old { file = new.file } → cause_in called ≡ None → IsKeptSeen old → IsKeptSeen new → Answers old called false false new → Makes old asked told new
-quiet_makes old new asked told called tells same no_cause was is answer = record {
-  event = record { called = called; failed = false; refused = false };
-  tells = tells;
-  step = record {
-    kept = was;
-    keeps = is;
-    undamaged = subst (NeverDamaged old.sound) (sym no_cause) (names_none old.sound);
-    failures = ap (λ (s : Seen). s.failures) same;
-    refusals = ap (λ (s : Seen). s.refusals) same;
-    sound = ap (λ (s : Seen). s.sound) same;
-    logged = ap (λ (s : Seen). s.logged) same;
-    commits = λ _. ap (λ (s : Seen). s.commits) same;
-    told = tells_none old.sound old.records new.records old.log new.log (ap (λ (s : Seen). s.records) same) (ap (λ (s : Seen). s.log) same);
-    answer = answer;
-  };
-}
+-- what happens in a call doesn't depend on whether commits are kept beside its table
+module _ (old new : Seen) (logged : Bool) (was is : List (List (List ℕ))) (same : is ≡ was) where
+  abbrev With : Seen → List (List (List ℕ)) → Seen
+  With s commits = record s { logged = logged; commits = commits }
 
--- a call that asks the table
-pub asks_makes : (old new : Seen) (asked : Call) (told : Answer) (called : Called) (failed refused : Bool) → TellsOf asked told called → new.failures ≡ counted old.failures failed → new.refusals ≡ counted old.refusals refused → new.sound ≡ old.sound → new.logged ≡ old.logged → new.commits ≡ old.commits → Tells old.sound old.records old.log new.records new.log → NeverDamaged old.sound (cause_in called) → IsKeptSeen old → IsKeptSeen new → Answers old called failed refused new → Makes old asked told new
-asks_makes old new asked told called failed refused tells failures refusals sound logged commits log undamaged was is answer = record {
-  event = record { called = called; failed = failed; refused = refused };
-  tells = tells;
-  step = record { kept = was; keeps = is; undamaged = undamaged; failures = failures; refusals = refusals; sound = sound; logged = logged; commits = λ _. commits; told = log; answer = answer };
-}
+  alike : new ≡ old → With new is ≡ With old was
+  alike all i = With (all i) (same i)
+
+  alike_but_file : new ≡ record old { file = new.file } → With new is ≡ record (With old was) { file = new.file }
+  alike_but_file rest i = With (rest i) (same i)
+
+  alike_refused : (first told : Option Refusal) → IfSome first (λ refusal. (told ≡ Some refusal) × (new ≡ old)) → IfSome first (λ refusal. (told ≡ Some refusal) × (With new is ≡ With old was))
+  alike_refused None told refused = refused
+  alike_refused (Some refusal) told refused = (refused.0, alike refused.1)
+
+  alike_asks : (may : Asked → Type 0) (cause : Option Cause) → Asks may old cause new → Asks may (With old was) cause (With new is)
+  alike_asks may cause told = record { asked = told.asked; allowed = told.allowed; calls = told.calls; lost = told.lost }
+
+  alike_undo : (cause : Option Cause) → UndoAsks old cause new → UndoAsks (With old was) cause (With new is)
+  alike_undo cause told = record { more = told.more; no_room = told.no_room; grown = told.grown; sets = told.sets; gets = told.gets; lists = told.lists; no_rooms = told.no_rooms; lost = told.lost }
+
+  answers_alike : (called : Called) (failed refused : Bool) → Answers old called failed refused new → Answers (With old was) called failed refused (With new is)
+  answers_alike (Begin answer) failed refused told = ((told.0.0, told.0.1, alike_but_file told.0.2), told.1)
+  answers_alike (Put t x r answer) failed refused told = (told.0, record { step = told.1.step; refused = alike_refused (key_refusal true old.file t.0 x) (refusal_by put_refusal answer) told.1.refused; refused_only = told.1.refused_only; accepted = told.1.accepted; opening = told.1.opening; err = told.1.err; damages = told.1.damages; asks = alike_asks _ _ told.1.asks })
+  answers_alike (Claim t x answer) failed refused told = (told.0, record { step = told.1.step; refused = alike_refused (key_refusal true old.file t.0 x) (refusal_by claim_refusal answer) told.1.refused; refused_only = told.1.refused_only; accepted = told.1.accepted; opening = told.1.opening; err = told.1.err; damages = told.1.damages; asks = told.1.asks })
+  answers_alike (Remove t x answer) failed refused told = (told.0, record { step = told.1.step; refused = alike_refused (key_refusal true old.file t.0 x) (refusal_by remove_refusal answer) told.1.refused; refused_only = told.1.refused_only; accepted = told.1.accepted; opening = told.1.opening; err = told.1.err; damages = told.1.damages; asks = alike_asks _ _ told.1.asks })
+  answers_alike (Get t x answer) failed refused told = (told.0, record { step = told.1.step; refused = alike_refused (key_refusal false old.file t.0 x) (refusal_by get_refusal answer) told.1.refused; refused_only = told.1.refused_only; same = told.1.same; damages = told.1.damages; asks = told.1.asks })
+  answers_alike (Savepoint t answer) failed refused told = ((told.0.0, told.0.1, alike_but_file told.0.2), told.1)
+  answers_alike (Release t n answer) failed refused told = ((told.0.0, told.0.1, alike_but_file told.0.2), told.1)
+  answers_alike (RollbackTo t n answer) failed refused told = (told.0, record { step = told.1.step; rolled = told.1.rolled; opening = told.1.opening; refused = alike_refused (returning_refusal old.file t.0 n) (refusal_by rollback_refusal answer) told.1.refused; damages = told.1.damages; asks = alike_undo _ told.1.asks })
+  answers_alike (Abort t answer) failed refused told = (told.0, record { step = told.1.step; rolled = told.1.rolled; opening = told.1.opening; refused = alike_refused (tx_refusal old.file t.0 None) (refusal_by abort_refusal answer) told.1.refused; damages = told.1.damages; asks = alike_undo _ told.1.asks })
+  answers_alike (Resume t answer) failed refused told = (told.0, record { step = told.1.step; rolled = told.1.rolled; opening = told.1.opening; refused = alike_refused (resuming_refusal old.file t.0) (refusal_by resume_refusal answer) told.1.refused; damages = told.1.damages; asks = alike_undo _ told.1.asks })
+  answers_alike (Commit t answer) failed refused told = ((told.0.0, told.0.1, λ i. With (told.0.2 i) is), told.1)
+  answers_alike (Entries answer) failed refused told = (told.0, record { owners = told.1.owners; step = told.1.step; same = told.1.same; damages = told.1.damages; asks = told.1.asks })
+  answers_alike (KeysOf t answer) failed refused told = ((told.0.0, told.0.1, alike told.0.2), told.1)
+  answers_alike (StatusOf t answer) failed refused told = ((told.0.0, told.0.1, alike told.0.2), told.1)
+  answers_alike (Charged count) failed refused told = ((told.0.0, told.0.1, alike told.0.2), told.1)
+  answers_alike (Begun count) failed refused told = ((told.0.0, told.0.1, alike told.0.2), told.1)
+  answers_alike (LogLen count) failed refused told = ((told.0.0, told.0.1, alike told.0.2), told.1)
+  answers_alike (LogUse count) failed refused told = ((told.0.0, told.0.1, alike told.0.2), told.1)
+  answers_alike (RecordAt lsn answer) failed refused told = ((told.0.0, told.0.1, alike told.0.2), told.1)
+  answers_alike (IntoTable answer) failed refused told = ((told.0.0, told.0.1, alike told.0.2), told.1)
+
+-- The step of a run that a call is, where commits are kept beside its table, and where they aren't.
+pub step_of : {T : Type 0} (t : Ghosts T) (logged : Bool) (old new : OpenFile T) (called : Called) (made : Made t old called new) → IsKeptSeen (seen_as logged t old) → IsKeptSeen (seen_as logged t new) → Step (undoubted (seen_as logged t old)) (event_of called made.refused) (undoubted (seen_as logged t new))
+step_of t logged old new called made was is =
+    let happens = made.happens in
+    let same = same_commits logged t old.table new.table happens.sound made.origin in
+    record {
+      kept = was;
+      keeps = is;
+      happens = record {
+        undamaged = happens.undamaged;
+        failures = happens.failures;
+        refusals = happens.refusals;
+        sound = happens.sound;
+        told = happens.told;
+        logged = refl;
+        commits = λ _. same;
+        answer = answers_alike (seen t old) (seen t new) logged (commits_of logged t old.table) (commits_of logged t new.table) same called (by_device (cause_in called)) made.refused happens.answer;
+      };
+    }
+
+-- a call makes its step
+pub call_makes : {T : Type 0} (t : Ghosts T) (old new : OpenFile T) (asked : Call) (told : Answer) (called : Called) → TellsOf asked told called → Made t old called new → IsKeptSeen (seen t old) → IsKeptSeen (seen t new) → Makes (seen t old) asked told (seen t new)
+call_makes t old new asked told called tells made was is = record { event = event_of called made.refused; tells = tells; step = step_of t false old new called made was is }
 
 -- a refusal leaves all that a run sees
-pub refused_as : {T : Type 0} (t : Ghosts T) (logged : Bool) (old new : OpenFile T) (first told : Option Refusal) → IfSome first (λ refusal. (told ≡ Some refusal) × (new ≡ old)) → IfSome first (λ refusal. (told ≡ Some refusal) × (seen_as logged t new ≡ seen_as logged t old))
-refused_as t logged old new None told is = is
-refused_as t logged old new (Some refusal) told is = (is.0, ap (seen_as logged t) is.1)
-
 pub refused_seen : {T : Type 0} (t : Ghosts T) (old new : OpenFile T) (first told : Option Refusal) → IfSome first (λ refusal. (told ≡ Some refusal) × (new ≡ old)) → IfSome first (λ refusal. (told ≡ Some refusal) × (seen t new ≡ seen t old))
-refused_seen t old new first told is = refused_as t false old new first told is
+refused_seen t old new None told is = is
+refused_seen t old new (Some refusal) told is = (is.0, ap (seen t) is.1)
 
 -- a look never wants memory
 pub get_wants_none : {A : Type 0} (answer : Result A GetFault) → false ≡ by_memory (cause_by get_refusal answer)
@@ -104,8 +139,3 @@ get_wants_none (Err get_faults.Rolling) = refl
 get_wants_none (Err (get_faults.Held owner)) = refl
 get_wants_none (Err get_faults.Device) = refl
 get_wants_none (Err (get_faults.Damaged page)) = refl
-
--- a listing has the cause of its list
-pub listed_cause : {X : Type 0} (told : Result (Vec X) EntriesFault) → cause_by entries_refusal told ≡ cause_by entries_refusal (listed told)
-listed_cause (Ok list) = refl
-listed_cause (Err fault) = refl

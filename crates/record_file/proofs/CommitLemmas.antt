@@ -263,7 +263,7 @@ run_commits m answered old new (e ∷ es) kept sound holds ran =
     ap (λ (k : Writes). overlay (committed old.file) k) ran.4
     ∙ overlay-append ran.2 ran.3 (committed old.file)
     ∙ ap (λ (n : Contents). overlay n ran.3) (sym (move_commits m answered old.file holds e.called ran.0.file ran.2 (move_of old ran.0 e sound ran.1) ran.5))
-    ∙ run_commits m (added answered (old_record e.called)) ran.0 new es ran.3 (ran.1.sound ∙ sound) (step_kept m answered old ran.0 e sound holds ran.1) ran.6
+    ∙ run_commits m (added answered (old_record e.called)) ran.0 new es ran.3 (ran.1.happens.sound ∙ sound) (step_kept m answered old ran.0 e sound holds ran.1) ran.6
 
 pub start_commits : (old new : Seen) (es : List Event) (kept : Writes) → Starts old → CommitsKept old es new kept → overlay old.records kept ≡ committed new.file
 start_commits old new es kept start ran =
@@ -331,7 +331,7 @@ first_kept old new t x r before more kept ran =
     let put = ran.6 in
     let commit = put.6 in
     let grown : put.0.file.history ≡ old.file.history ++ put_by t x r ∷ [] =
-    ap (λ (f : File). f.history) put.1.answer.1.accepted.history ∙ ap (λ (f : File). f.history ++ put_by t x r ∷ []) ran.1.answer.1.2 in
+    ap (λ (f : File). f.history) put.1.happens.answer.1.accepted.history ∙ ap (λ (f : File). f.history ++ put_by t x r ∷ []) ran.1.happens.answer.1.2 in
     record {
       mid = commit.0;
       first = commit.2;

@@ -83,13 +83,13 @@ exact_of s kept = kept_exact _ _ _ _ _ kept
 
 -- so it is in a step
 pub compensates_once : (old new : Seen) (e : Event) → Step old e new → CompensatesOnce old new
-compensates_once old new e step = compensates old new step.told.0 step.told.1 (exact_of old step.kept) (exact_of new step.keeps)
+compensates_once old new e step = compensates old new step.happens.told.0 step.happens.told.1 (exact_of old step.kept) (exact_of new step.keeps)
 
 run_grows : (old new : Seen) (es : List Event) → Run old es new → (more : List LogRecord) × (new.log ≡ old.log ++ more)
 run_grows old new [] ran = ([], ap (λ (s : Seen). s.log) ran ∙ sym (append-nil old.log))
 run_grows old new (e ∷ es) ran =
     let later = run_grows ran.0 new es ran.2 in
-    let first = ran.1.told in
+    let first = ran.1.happens.told in
     (first.0 ++ later.0, later.1 ∙ ap (λ (rs : List LogRecord). rs ++ later.0) first.1 ∙ append_assoc old.log first.0 later.0)
 
 -- what stays true of a file is true of it after a run

@@ -149,7 +149,7 @@ run_leads m answered old new [] sound kept ran = subst (λ (f : File). LeadsTo (
 run_leads m answered old new (e ∷ es) sound kept ran =
     let first = move_leads old.file e.called ran.0.file (begun_of m answered old.file kept) (move_of old ran.0 e sound ran.1) in
     leads-trans (open_of old.file) (open_of ran.0.file) old.file.begun old.file.history ran.0.file.history new.file.history (begun_of m answered old.file kept) first.1 first.0
-    (run_leads m (added answered (old_record e.called)) ran.0 new es (ran.1.sound ∙ sound) (step_kept m answered old ran.0 e sound kept ran.1) ran.2)
+    (run_leads m (added answered (old_record e.called)) ran.0 new es (ran.1.happens.sound ∙ sound) (step_kept m answered old ran.0 e sound kept ran.1) ran.2)
 
 -- a live change of a transaction that has ended stays live
 pub ended_stays : (opened : ℕ → Bool) (h g : List Change) (n : ℕ) (c d : Change) → LeadsTo opened h g → slice_get h n ≡ Some c → IsTrue c.live → opened c.tx ≡ false → slice_get g n ≡ Some d → d.live ≡ false → ⊥

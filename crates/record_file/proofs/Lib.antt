@@ -21,6 +21,7 @@ pub mod StepLemmas
 pub mod FirstStepLemmas
 pub mod RemainingRunLemmas
 pub mod CallStepLemmas
+pub mod MadeLemmas
 pub mod ExactLemmas
 pub mod CompensatedOnceLemmas
 pub mod AskedLemmas

@@ -136,14 +136,16 @@ module _ (g : List Change) (e : Event) where
       record {
         kept = was;
         keeps = is;
-        undamaged = names_none s.sound (cause_in e.called) (ap cause_in called_is ∙ no_cause);
-        failures = ap (counted s.failures) (sym failed);
-        refusals = ap (counted s.refusals) (sym refused);
-        sound = refl;
-        logged = refl;
-        commits = λ _. refl;
-        told = tells_none s.sound s.records s.records s.log s.log refl refl;
-        answer = subst (λ c. Answers s c e.failed e.refused (record s { file = new })) (sym called_is) answers;
+        happens = record {
+          undamaged = names_none s.sound (cause_in e.called) (ap cause_in called_is ∙ no_cause);
+          failures = ap (counted s.failures) (sym failed);
+          refusals = ap (counted s.refusals) (sym refused);
+          sound = refl;
+          logged = refl;
+          commits = λ _. refl;
+          told = tells_none s.sound s.records s.records s.log s.log refl refl;
+          answer = subst (λ c. Answers s c e.failed e.refused (record s { file = new })) (sym called_is) answers;
+        };
       },
       failed,
       refused,
@@ -348,7 +350,7 @@ step_alone m answered fs fs2 e g s sound kept step move leads on alone = at move
     was = alone_kept fs.file g s (bounds fs sound step.kept) leads alone
 
     keeps : (f2 : File) → fs2.file ≡ f2 → Keeps f2 g
-    keeps f2 is = subst (λ (f2 : File). Keeps f2 g) is (λ s2 alone2. alone_kept fs2.file g s2 (bounds fs2 (step.sound ∙ sound) step.keeps) on alone2)
+    keeps f2 is = subst (λ (f2 : File). Keeps f2 g) is (λ s2 alone2. alone_kept fs2.file g s2 (bounds fs2 (step.happens.sound ∙ sound) step.keeps) on alone2)
 
     f : File
     f = fs.file
@@ -360,7 +362,7 @@ step_alone m answered fs fs2 e g s sound kept step move leads on alone = at move
     led f2 is = subst (λ (f2 : File). LeadsTo (open_of f2) f2.history g) is on
 
     called : (c : Called) → e.called ≡ c → Answers fs c e.failed e.refused fs2
-    called c is = subst (λ c. Answers fs c e.failed e.refused fs2) is step.answer
+    called c is = subst (λ c. Answers fs c e.failed e.refused fs2) is step.happens.answer
 
     -- a change that is put or claimed
     placed : (t : TxId) (x : List ℕ) (after : Option (Option (List ℕ))) (before : Option (List ℕ)) → old_record e.called ≡ Some before → cause_in e.called ≡ None → e.failed ≡ false → e.refused ≡ false → key_refusal true f t.0 x ≡ None → is_full f x ≡ false → before ≡ get (records_of f) x → fs2.file ≡ with_change f t.0 x after → (key_refusal true s.file t.0 x ≡ None → is_full s.file x ≡ false → before ≡ get (records_of s.file) x → Answers s e.called e.failed e.refused (made s alone.tidy t x before after)) → Goes f g e (with_change f t.0 x after) s
@@ -373,14 +375,16 @@ step_alone m answered fs fs2 e g s sound kept step move leads on alone = at move
           record {
             kept = was;
             keeps = now_kept;
-            undamaged = names_none s.sound (cause_in e.called) no_cause;
-            failures = ap (counted s.failures) (sym quiet);
-            refusals = ap (counted s.refusals) (sym unrefused);
-            sound = refl;
-            logged = refl;
-            commits = λ _. refl;
-            told = tells_one s.sound s.records (write_to s.records x after) s.log s.log (made s alone.tidy t x before after).log (next_record s alone.tidy t x before after) refl refl (λ here. change_written s.records _ _ t x before after);
-            answer = answers (none_refused s.file t.0 x now.active now.free now.room) (now.not_full lasts room) (stood ∙ sym (now.stood lasts));
+            happens = record {
+              undamaged = names_none s.sound (cause_in e.called) no_cause;
+              failures = ap (counted s.failures) (sym quiet);
+              refusals = ap (counted s.refusals) (sym unrefused);
+              sound = refl;
+              logged = refl;
+              commits = λ _. refl;
+              told = tells_one s.sound s.records (write_to s.records x after) s.log s.log (made s alone.tidy t x before after).log (next_record s alone.tidy t x before after) refl refl (λ here. change_written s.records _ _ t x before after);
+              answer = answers (none_refused s.file t.0 x now.active now.free now.room) (now.not_full lasts room) (stood ∙ sym (now.stood lasts));
+            };
           },
           quiet,
           unrefused,
@@ -443,36 +447,38 @@ step_alone m answered fs fs2 e g s sound kept step move leads on alone = at move
           record {
             kept = was;
             keeps = now_kept;
-            undamaged = names_none s.sound (cause_in e.called) (ap cause_in called_is);
-            failures = ap (counted s.failures) (sym a.0.0);
-            refusals = ap (counted s.refusals) (sym refused);
-            sound = refl;
-            logged = refl;
-            commits = λ _. refl;
-            told = tells_one s.sound s.records (set_to s.records x None) s.log s.log s2.log (next_record s alone.tidy t x (Some before) (Some None)) refl refl (λ here. refl);
-            answer = subst (λ c. Answers s c e.failed e.refused s2) (sym called_is) (
-              a.0,
-              record {
-                step = λ here few. (
-                  none,
-                  not_risen s.failures,
-                  now.stood lasts ∙ stood,
-                  refl,
-                );
-                refused = subst (λ o. IfSome o (λ refusal. (None ≡ Some refusal) × (s2 ≡ s))) (sym none) tt;
-                refused_only = tt;
-                accepted = record { history = refl; logged = refl };
-                opening = λ here. refl;
-                err = tt;
-                damages = inl refl;
-                asks = record {
-                  asked = asked_by (Some None);
-                  allowed = record { accepted = refl; absent = λ absent. absurd (cc absent); looks = ap (λ (o : Option Refusal). not (is_some o)) (sym none) };
-                  calls = refl;
-                  lost = refl;
-                };
-              },
-            );
+            happens = record {
+              undamaged = names_none s.sound (cause_in e.called) (ap cause_in called_is);
+              failures = ap (counted s.failures) (sym a.0.0);
+              refusals = ap (counted s.refusals) (sym refused);
+              sound = refl;
+              logged = refl;
+              commits = λ _. refl;
+              told = tells_one s.sound s.records (set_to s.records x None) s.log s.log s2.log (next_record s alone.tidy t x (Some before) (Some None)) refl refl (λ here. refl);
+              answer = subst (λ c. Answers s c e.failed e.refused s2) (sym called_is) (
+                a.0,
+                record {
+                  step = λ here few. (
+                    none,
+                    not_risen s.failures,
+                    now.stood lasts ∙ stood,
+                    refl,
+                  );
+                  refused = subst (λ o. IfSome o (λ refusal. (None ≡ Some refusal) × (s2 ≡ s))) (sym none) tt;
+                  refused_only = tt;
+                  accepted = record { history = refl; logged = refl };
+                  opening = λ here. refl;
+                  err = tt;
+                  damages = inl refl;
+                  asks = record {
+                    asked = asked_by (Some None);
+                    allowed = record { accepted = refl; absent = λ absent. absurd (cc absent); looks = ap (λ (o : Option Refusal). not (is_some o)) (sym none) };
+                    calls = refl;
+                    lost = refl;
+                  };
+                },
+              );
+            };
           },
           a.0.0,
           refused,
@@ -510,7 +516,7 @@ pub run_alone : (m : Contents) (answered : List (Option (List ℕ))) (fs new : S
     → (end : Seen) × Run s (remaining es (past (length fs.file.history) new.file.history)) end × NothingFails (remaining es (past (length fs.file.history) new.file.history)) × Alone new.file new.file.history end
 run_alone m answered fs new [] s sound kept ran alone = (s, refl, tt, subst (λ (q : Seen). Alone q.file new.file.history s) (sym ran) alone)
 run_alone m answered fs new (e ∷ es) s sound kept ran alone =
-    let then_sound = ran.1.sound ∙ sound in
+    let then_sound = ran.1.happens.sound ∙ sound in
     let then_kept = step_kept m answered fs ran.0 e sound kept ran.1 in
     let goes = step_alone m answered fs ran.0 e new.file.history s sound kept ran.1 (move_of fs ran.0 e sound ran.1) (run_leads m answered fs new (e ∷ es) sound kept ran) (run_leads m (added answered (old_record e.called)) ran.0 new es then_sound then_kept ran.2) alone in
     let rest = run_alone m (added answered (old_record e.called)) ran.0 new es goes.0 then_sound then_kept ran.2 goes.2 in

@@ -192,14 +192,14 @@ module _ (t p : ℕ) where
   goes_on : (h : List Change) (old new : Seen) (between : List Event) (last : Event) → Stays t p h old.file.history → Under old.file → All (λ (e : Event). Finishes t e.called → ⊥) between → Finishes t last.called → Run old (between ++ last ∷ []) new
       → (i : ℕ) (past : Change) → slice_get h i ≡ Some past → past.tx ≡ t → slice_get new.file.history i ≡ slice_get (take_back h t p) i
   goes_on h old new [] last stays under none over ran i past is mine =
-      let done = ap (λ (s : Seen). s.file.history) ran.2 ∙ finish old ran.0 last.called last.failed last.refused under over ran.1.answer in
+      let done = ap (λ (s : Seen). s.file.history) ran.2 ∙ finish old ran.0 last.called last.failed last.refused under over ran.1.happens.answer in
       ap (λ (g : List Change). slice_get g i) done ∙ (stays i past is mine).3
   goes_on h old new (e ∷ es) last stays under none over ran i past is mine =
-      let passed = passes old ran.0 e.called e.failed e.refused ran.1.kept under (All-head (λ (e : Event). Finishes t e.called → ⊥) e es none) ran.1.answer in
+      let passed = passes old ran.0 e.called e.failed e.refused ran.1.kept under (All-head (λ (e : Event). Finishes t e.called → ⊥) e es none) ran.1.happens.answer in
       goes_on h ran.0 new es last (stays_on t p h old.file.history ran.0.file.history stays passed.stays) passed.under (All-tail (λ (e : Event). Finishes t e.called → ⊥) e es none) over ran.2 i past is mine
 
   -- from the first stop to the finish
   pub takes_whole : (old new : Seen) (first last : Event) (between : List Event) → StopsFirst old.file t p first.called → All (λ (e : Event). Finishes t e.called → ⊥) between → Finishes t last.called → Run old (first ∷ (between ++ last ∷ [])) new → TakesWhole old t p new
   takes_whole old new first last between stops none over ran =
-      let begun = stopped old ran.0 first.called first.failed first.refused stops ran.1.answer in
+      let begun = stopped old ran.0 first.called first.failed first.refused stops ran.1.happens.answer in
       goes_on old.file.history ran.0 new between last begun.stays begun.under none over ran.2

@@ -219,7 +219,7 @@ move_kept m answered old called new kept move = at move
 -- a sound table is sound after a run
 pub run_sound : (old new : Seen) (es : List Event) → IsTrue old.sound → Run old es new → IsTrue new.sound
 run_sound old new [] sound ran = ap (λ (s : Seen). s.sound) ran ∙ sound
-run_sound old new (e ∷ es) sound ran = run_sound ran.0 new es (ran.1.sound ∙ sound) ran.2
+run_sound old new (e ∷ es) sound ran = run_sound ran.0 new es (ran.1.happens.sound ∙ sound) ran.2
 
 with_added : (answered : List (Option (List ℕ))) (o : Option (Option (List ℕ))) (later : List (Option (List ℕ))) → added answered o ++ later ≡ answered ++ with_first o later
 with_added answered None later = refl
@@ -240,7 +240,7 @@ run_kept m answered old new [] sound kept ran =
     subst (λ (bs : List (Option (List ℕ))). KeptRun m bs new.file) (sym (append_none answered)) (subst (λ (f : File). KeptRun m answered f) (sym (ap (λ (s : Seen). s.file) ran)) kept)
 run_kept m answered old new (e ∷ es) sound kept ran =
     subst (λ (bs : List (Option (List ℕ))). KeptRun m bs new.file) (with_added answered (old_record e.called) (old_records es))
-    (run_kept m (added answered (old_record e.called)) ran.0 new es (ran.1.sound ∙ sound) (step_kept m answered old ran.0 e sound kept ran.1) ran.2)
+    (run_kept m (added answered (old_record e.called)) ran.0 new es (ran.1.happens.sound ∙ sound) (step_kept m answered old ran.0 e sound kept ran.1) ran.2)
 
 -- it holds at a start
 pub start_kept : (old : Seen) → Starts old → KeptRun old.records [] old.file

@@ -31,7 +31,7 @@ log_long s kept = ap log_len (sym kept.chained.2) ∙ kept.chained.1.whole
 pub logs_each : (old new : Seen) (failed refused : Bool) (t : TxId) (n undone : ℕ) → Step old (record { called = RollbackTo t n (Ok undone); failed = failed; refused = refused }) new → length new.log ≡ length old.log + undone
 logs_each old new failed refused t n undone step =
     let p = place_in (places_at old.file t.0) n in
-    let rolled = step.answer.1.rolled.1 in
+    let rolled = step.happens.answer.1.rolled.1 in
     let grown = ap (λ (f : File). log_len f.history) rolled.1 ∙ ap log_len (taken_all old.file.history t.0 p) ∙ log_len_back old.file.history t.0 p (live_from old.file.history t.0 p) (omega arith) in
     omega (arith, grown, rolled.0, log_long old step.kept, log_long new step.keeps)
 

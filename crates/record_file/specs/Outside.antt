@@ -1,7 +1,7 @@
 -- What comes to a call from outside: a failed device, a damaged page, or a want of memory; and what the table, whose
 -- counts tell of them, has then counted.
 use Rattle.std.specs.Prelude.{◌≡◌, ◌≢◌, ◌⊎◌, ℕ, Bool, true, false, Option, Some, IsTrue}
-use Rattle.rec_types.specs.Table.{counted, Damages, damaged_at}
+use Rattle.rec_types.specs.Table.{Damages, damaged_at}
 use Rattle.rec_types.specs.declared.table.TableFault.{TableFault}
 use Rattle.rec_types.specs.declared.table.TableFault.TheVariants as table_faults
 use Rattle.record_file.specs.declared.fault.Cause.{Cause}
@@ -28,10 +28,6 @@ by_device cause = false
 abbrev pub by_memory : Option Cause → Bool
 by_memory (Some Memory) = true
 by_memory cause = false
-
--- A call that asks the log for memory too: where the table refused it, the answer says so.
-abbrev pub AsksMemory : ℕ → Option Cause → ℕ → Type 0
-AsksMemory old cause new = (refused : Bool) × (new ≡ counted old refused) × (IsTrue refused → IsTrue (by_memory cause))
 
 -- a damaged page is answered where the table named it, and no answer hides one
 abbrev pub named_by : Damages → Option Cause → Damages

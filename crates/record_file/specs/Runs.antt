@@ -23,13 +23,15 @@ use Rattle.record_file.specs.declared.fault.EntriesFault.{EntriesFault}
 use Rattle.record_file.specs.declared.fault.KeysOfFault.{KeysOfFault}
 use Rattle.record_file.specs.declared.fault.StatusFault.{StatusFault}
 use Rattle.record_file.specs.declared.fault.Status.{Status}
-use Rattle.record_file.specs.Abstract.{File, IsKeptFile, Tells, charged_of, use_of}
+use Rattle.rec_types.specs.declared.table_state.TableState.{Ghosts}
+use Rattle.record_file.specs.Abstract.{File, OpenFile, IsKeptFile, Tells, charged_of, use_of}
 use Rattle.record_file.specs.Asked.{Asks, MayPut, MayRemove, UndoAsks, looked_unless}
 use Rattle.record_file.specs.Outside.{by_device, by_memory, named_by, TellsDamage, NeverDamaged}
 use Rattle.record_file.specs.Refusals.{put_refusal, claim_refusal, remove_refusal, get_refusal, rollback_refusal, abort_refusal, resume_refusal, entries_refusal, refusal_by, cause_by, by_file}
 use Rattle.record_file.specs.declared.fault.Cause.{Cause}
 pub use Rattle.record_file.specs.Seen.{Seen, seen, seen_as, undoubted}
-use Rattle.record_file.specs.Steps.{rose, key_refusal, tx_refusal, returning_refusal, resuming_refusal, Accepts, key_change, BeginStep, PutStep, ClaimStep, RemoveStep, GetStep, SavepointStep, ReleaseStep, CommitStep, RollsBackTo, RollbackToStep, Aborts, AbortStep, Resumes, ResumeStep, EntriesStep, KeysOfStep, status_of}
+use Rattle.record_file.specs.Steps.{rose, key_refusal, tx_refusal, returning_refusal, resuming_refusal, Accepts, key_change, BeginStep, PutStep, ClaimStep, RemoveStep, GetStep, SavepointStep, ReleaseStep, CommitStep, RollsBackTo, RollbackToStep, Aborts, AbortStep, Resumes, ResumeStep, EntriesStep, TellOwners, KeysOfStep, status_of}
+use Rattle.record_file.specs.TableCalls.{KeepsTable, KeepsLog}
 
 -- a call with its arguments, and what it answered
 pub data Called : Type 0 where
@@ -163,6 +165,7 @@ pub record IsResumed (old : Seen) (t : TxId) (answer : Result ℕ ResumeFault) (
   pub asks : UndoAsks old (cause_by resume_refusal answer) new
 
 pub record Lists (old : Seen) (answer : Result (List Entry) EntriesFault) (new : Seen) : Type 0 where
+  pub owners : IfOk answer (λ entries. TellOwners old.file entries)
   pub step : IsTrue old.sound → old.failures < greatest_count → EntriesStep old.file (rose old.failures new.failures) answer new.file
   pub same : Leaves old new
   pub damages : new.damages ≡ named_by old.damages (cause_by entries_refusal answer)
@@ -201,12 +204,10 @@ abbrev pub is_commit : Called → Bool
 is_commit (Commit t (Ok done)) = true
 is_commit called = false
 
--- What stays true of a file is true of it before and after. The table's counts rise by what came from outside, and by
--- nothing else, and by the calls that the answer tells of; over a sound table no page is damaged; the log tells what
--- became of the records; none but an accepted commit is kept beside the table.
-pub record Step (old : Seen) (e : Event) (new : Seen) : Type 0 where
-  pub kept : IsKeptSeen old
-  pub keeps : IsKeptSeen new
+-- What a run sees happen in a call. The table's counts rise by what came from outside, and by nothing else, and by the calls
+-- that the answer tells of; over a sound table no page is damaged; the log tells what became of the records; none but an
+-- accepted commit is kept beside the table.
+pub record Happens (old : Seen) (e : Event) (new : Seen) : Type 0 where
   pub undamaged : NeverDamaged old.sound (cause_in e.called)
   pub failures : new.failures ≡ counted old.failures e.failed
   pub refusals : new.refusals ≡ counted old.refusals e.refused
@@ -216,7 +217,40 @@ pub record Step (old : Seen) (e : Event) (new : Seen) : Type 0 where
   pub commits : is_commit e.called ≡ false → new.commits ≡ old.commits
   pub answer : Answers old e.called e.failed e.refused new
 
+-- What stays true of a file is true of it before and after.
+pub record Step (old : Seen) (e : Event) (new : Seen) : Type 0 where
+  pub kept : IsKeptSeen old
+  pub keeps : IsKeptSeen new
+  pub happens : Happens old e new
+
 -- one step after another
 abbrev pub Run : Seen → List Event → Seen → Type 0
 Run old [] new = new ≡ old
 Run old (e ∷ es) new = (mid : Seen) × Step old e mid × Run mid es new
+
+-- the theorem of a call
+
+-- the call as an event: the device failed in it exactly where its answer says so
+abbrev pub event_of : Called → Bool → Event
+event_of called refused = record { called = called; failed = by_device (cause_in called); refused = refused }
+
+-- What a call leaves of the file itself, its table with it: all, where the file alone refuses the call; and all but the abstract
+-- file, where the call asks the table nothing. A listing always asks it.
+abbrev pub SparesFile : {T : Type 0} → OpenFile T → Called → OpenFile T → Type 0
+SparesFile old (Put t x r answer) new = IfSome (key_refusal true old.file t.0 x) (λ _. new ≡ old)
+SparesFile old (Claim t x answer) new = IfSome (key_refusal true old.file t.0 x) (λ _. new ≡ old)
+SparesFile old (Remove t x answer) new = IfSome (key_refusal true old.file t.0 x) (λ _. new ≡ old)
+SparesFile old (Get t x answer) new = IfSome (key_refusal false old.file t.0 x) (λ _. new ≡ old)
+SparesFile old (RollbackTo t n answer) new = IfSome (returning_refusal old.file t.0 n) (λ _. new ≡ old)
+SparesFile old (Abort t answer) new = IfSome (tx_refusal old.file t.0 None) (λ _. new ≡ old)
+SparesFile old (Resume t answer) new = IfSome (resuming_refusal old.file t.0) (λ _. new ≡ old)
+SparesFile old (Entries answer) new = Unit {0}
+SparesFile old called new = KeepsTable old new × KeepsLog old new
+
+-- From old the call has this answer, and leads to new. A run sees it happen, whether or not the table refused memory in it; what
+-- the table was made of stays; and the file itself is spared where its table isn't asked.
+pub record Made {T : Type 0} (t : Ghosts T) (old : OpenFile T) (called : Called) (new : OpenFile T) : Type 0 where
+  pub refused : Bool
+  pub happens : Happens (seen t old) (event_of called refused) (seen t new)
+  pub origin : t.origin new.table ≡ t.origin old.table
+  pub spares : SparesFile old called new

@@ -6,7 +6,7 @@ use Rattle.tx_log.specs.declared.phase.UndoStep.TheVariants.{Restore, Unclaim}
 use Rattle.rec_types.specs.Table.{counted}
 use Rattle.rec_types.specs.declared.table_state.TableState.{Ghosts}
 use Rattle.record_file.specs.Abstract.{OpenFile, Tells}
-use Rattle.record_file.specs.Outside.{by_device, named_by, TellsDamage}
+use Rattle.record_file.specs.Outside.{by_device, TellsDamage}
 use Rattle.record_file.specs.declared.fault.Cause.{Cause}
 
 -- what an undo step makes of the contents: a claim's leaves them
@@ -18,15 +18,7 @@ abbrev pub step_key : UndoStep → List ℕ
 step_key (Restore key before) = key
 step_key (Unclaim key) = key
 
--- a call that changes no record; the cause is what came from outside and ended it
-pub record LeavesTable {T : Type 0} (t : Ghosts T) (old : OpenFile T) (cause : Option Cause) (new : OpenFile T) : Type 0 where
-  pub same : (t.contents new.table ≡ t.contents old.table) × (new.file ≡ old.file) × (new.log ≡ old.log)
-  pub soundness : t.sound new.table ≡ t.sound old.table
-  pub origin : t.origin new.table ≡ t.origin old.table
-  pub device : t.device_failures new.table ≡ counted (t.device_failures old.table) (by_device cause)
-  pub damages : t.damages new.table ≡ named_by (t.damages old.table) cause
-
--- a call that may change records, and the log with them: the opening contents stay
+-- a call that may change records, and the log with them: the opening contents stay; the cause is what came from outside and ended it
 pub record ChangesTable {T : Type 0} (t : Ghosts T) (old : OpenFile T) (cause : Option Cause) (new : OpenFile T) : Type 0 where
   pub told : Tells (t.sound old.table) (t.contents old.table) old.log (t.contents new.table) new.log
   pub soundness : t.sound new.table ≡ t.sound old.table

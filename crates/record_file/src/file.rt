@@ -2,9 +2,8 @@ ghost use Rattle.std.specs.Prelude.{[], ◌≡◌, ◌≢◌, ◌<◌, Some, Non
 ghost use Rattle.std.specs.FinMap as maps;
 ghost use Rattle.record_file.specs.Abstract.{new_file};
 ghost use Rattle.record_file.specs.Durable.{AsksKeeper, KeptStep};
-ghost use Rattle.record_file.specs.Runs.{GivesTable};
-ghost use Rattle.record_file.specs.Steps.{BeginStep, SavepointStep, ReleaseStep, CommitStep};
-ghost use Rattle.record_file.specs.TableCalls.{KeepsLog, KeepsTable, SameTable};
+ghost use Rattle.record_file.specs.Runs.{Made, Begin, Savepoint, Release, Commit, GivesTable};
+ghost use Rattle.record_file.specs.TableCalls.{KeepsLog, SameTable};
 ghost use Rattle.tx_log.specs.Written.{own, writes};
 
 mod changes;
@@ -96,18 +95,14 @@ impl<T: Table> RecordFile<T> {
 
     /// Begins a transaction; its number is the count of those begun. Faults: BeginsSpent, Memory.
     pub fn begin(&mut self) -> Result<TxId, BeginFault>
-        ensures step { BeginStep self.old.file result self.new.file }
-        ensures table { KeepsTable self.old self.new }
-        ensures log { KeepsLog self.old self.new }
+        ensures { Made T.TableState self.old (Begin result) self.new }
     {
         self.log.begin()
     }
 
     /// Sets a savepoint, and answers its number. Faults: NoSuchTx, Rolling, TooDeep. It takes no memory.
     pub fn savepoint(&mut self, tx: TxId) -> Result<u32, SavepointFault>
-        ensures step { SavepointStep self.old.file tx.0 result self.new.file }
-        ensures table { KeepsTable self.old self.new }
-        ensures log { KeepsLog self.old self.new }
+        ensures { Made T.TableState self.old (Savepoint tx result) self.new }
     {
         match self.log.phase(tx) {
             None => Err(SavepointFault::NoSuchTx),
@@ -123,9 +118,7 @@ impl<T: Table> RecordFile<T> {
 
     /// Drops savepoint n and those above it. Faults: NoSuchTx, Rolling, NoSuchSave. It takes no memory.
     pub fn release(&mut self, tx: TxId, n: u32) -> Result<(), ReleaseFault>
-        ensures step { ReleaseStep self.old.file tx.0 n result self.new.file }
-        ensures table { KeepsTable self.old self.new }
-        ensures log { KeepsLog self.old self.new }
+        ensures { Made T.TableState self.old (Release tx n result) self.new }
     {
         match self.log.phase(tx) {
             None => Err(ReleaseFault::NoSuchTx),
@@ -142,9 +135,7 @@ impl<T: Table> RecordFile<T> {
 
     /// Ends a transaction; its changes stay. Faults: NoSuchTx, Rolling. It takes no memory.
     pub fn commit(&mut self, tx: TxId) -> Result<(), CommitFault>
-        ensures step { CommitStep self.old.file tx.0 result self.new.file }
-        ensures table { KeepsTable self.old self.new }
-        ensures log { KeepsLog self.old self.new }
+        ensures { Made T.TableState self.old (Commit tx result) self.new }
     {
         match self.log.phase(tx) {
             None => Err(CommitFault::NoSuchTx),

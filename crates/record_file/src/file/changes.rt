@@ -1,14 +1,10 @@
-ghost use Rattle.std.specs.Prelude.{◌≡◌, ◌≢◌, ℕ, ◌<◌, ◌&&◌, Bool, true, false, not, is_none, is_some, Option, Some, None, Ok, Err, IsTrue, IfOk, IfErr, OnErr, IfSome};
+ghost use Rattle.std.specs.Prelude.{◌≡◌, ◌≢◌, ◌&&◌, Bool, not, is_none, Err, IsTrue, IfOk};
 ghost use Rattle.rec_types.specs.Answered.{Answered};
-ghost use Rattle.rec_types.specs.Table.{NeverFull, greatest_count};
+ghost use Rattle.rec_types.specs.Table.{NeverFull};
 ghost use Rattle.std.specs.FinMap as maps;
 ghost use Rattle.record_file.specs.Abstract.{is_full, records_of};
-ghost use Rattle.record_file.specs.Asked.{Asks, MayPut, MayRemove, looked_unless, may_be_full};
-ghost use Rattle.record_file.specs.Outside.{AsksMemory, NeverDamaged, named_by};
-ghost use Rattle.record_file.specs.Refusals.{put_refusal, claim_refusal, remove_refusal, refusal_by, cause_by, by_file};
-ghost use Rattle.record_file.specs.TableCalls.{ChangesTable};
-ghost use Rattle.record_file.specs.Seen.{seen};
-ghost use Rattle.record_file.specs.Steps.{rose, key_refusal, Accepts, key_change, PutStep, ClaimStep, RemoveStep};
+ghost use Rattle.record_file.specs.Asked.{looked_unless, may_be_full};
+ghost use Rattle.record_file.specs.Runs.{Made, Put, Claim, Remove};
 
 use super::RecordFile;
 use crate::fault::{ClaimFault, PutFault, RemoveFault};
@@ -18,25 +14,7 @@ impl<T: Table> RecordFile<T> {
     /// Puts a record at the key, and answers the one that stood there. Faults: NoSuchTx, Rolling, Held,
     /// LogFull, Device or Damaged, Full, Memory. A fault leaves everything unchanged.
     pub fn put(&mut self, tx: TxId, key: Key, value: Record) -> Result<Option<Record>, PutFault>
-        ensures step { IsTrue (T.sound self.old.table)
-            → T.device_failures self.old.table < greatest_count
-            → PutStep self.old.file tx.0 key value
-            (rose (T.device_failures self.old.table) (T.device_failures self.new.table))
-            result self.new.file }
-        ensures refused { IfSome (key_refusal true self.old.file tx.0 key)
-            (λ refusal. (refusal_by put_refusal result ≡ Some refusal) × (self.new ≡ self.old)) }
-        ensures refused_only { IfErr result (λ fault. IsTrue (by_file (put_refusal fault))
-            → key_refusal true self.old.file tx.0 key ≡ Some (put_refusal fault)) }
-        ensures accepted { IfOk result (λ before. Accepts self.old.file self.old.log
-            (key_change tx key before (Some (Some value))) self.new.file self.new.log) }
-        ensures err { OnErr result ((T.contents self.new.table ≡ T.contents self.old.table)
-            × (self.new.file ≡ self.old.file) × (self.new.log ≡ self.old.log)) }
-        ensures table { ChangesTable T.TableState self.old (cause_by put_refusal result) self.new }
-        ensures memory { AsksMemory (T.memory_refusals self.old.table) (cause_by put_refusal result)
-            (T.memory_refusals self.new.table) }
-        ensures damaged { NeverDamaged (T.sound self.old.table) (cause_by put_refusal result) }
-        ensures asks { Asks (MayPut (T.sound self.old.table) self.old.file key result)
-            (seen T.TableState self.old) (cause_by put_refusal result) (seen T.TableState self.new) }
+        ensures { Made T.TableState self.old (Put tx key value result) self.new }
     {
         self.allow_change(tx, &key)?;
         if self.is_full(&key)? {
@@ -52,27 +30,7 @@ impl<T: Table> RecordFile<T> {
     /// Claims the key without changing its record, and answers that. Faults: NoSuchTx, Rolling, Held, LogFull,
     /// Device or Damaged, Full, Memory. A fault leaves everything unchanged.
     pub fn claim(&mut self, tx: TxId, key: Key) -> Result<Option<Record>, ClaimFault>
-        ensures step { IsTrue (T.sound self.old.table)
-            → T.device_failures self.old.table < greatest_count
-            → ClaimStep self.old.file tx.0 key
-            (rose (T.device_failures self.old.table) (T.device_failures self.new.table))
-            result self.new.file }
-        ensures refused { IfSome (key_refusal true self.old.file tx.0 key)
-            (λ refusal. (refusal_by claim_refusal result ≡ Some refusal) × (self.new ≡ self.old)) }
-        ensures refused_only { IfErr result (λ fault. IsTrue (by_file (claim_refusal fault))
-            → key_refusal true self.old.file tx.0 key ≡ Some (claim_refusal fault)) }
-        ensures accepted { IfOk result (λ seen. Accepts self.old.file self.old.log
-            (key_change tx key seen None) self.new.file self.new.log) }
-        ensures err { OnErr result ((T.contents self.new.table ≡ T.contents self.old.table)
-            × (self.new.file ≡ self.old.file) × (self.new.log ≡ self.old.log)) }
-        ensures table { ChangesTable T.TableState self.old (cause_by claim_refusal result) self.new }
-        ensures memory { AsksMemory (T.memory_refusals self.old.table) (cause_by claim_refusal result)
-            (T.memory_refusals self.new.table) }
-        ensures damaged { NeverDamaged (T.sound self.old.table) (cause_by claim_refusal result) }
-        ensures asks { T.calls self.new.table
-            ≡ looked_unless (is_some (key_refusal true self.old.file tx.0 key)) (T.calls self.old.table) }
-        ensures named { T.damages self.new.table
-            ≡ named_by (T.damages self.old.table) (cause_by claim_refusal result) }
+        ensures { Made T.TableState self.old (Claim tx key result) self.new }
     {
         self.allow_change(tx, &key)?;
         let full = self.is_full_if_absent(&key);
@@ -89,25 +47,7 @@ impl<T: Table> RecordFile<T> {
     /// Takes the record at the key out, and answers it. Faults: NoSuchTx, Rolling, Held, LogFull, Device or
     /// Damaged, Absent, Memory. A fault leaves everything unchanged.
     pub fn remove(&mut self, tx: TxId, key: Key) -> Result<Record, RemoveFault>
-        ensures step { IsTrue (T.sound self.old.table)
-            → T.device_failures self.old.table < greatest_count
-            → RemoveStep self.old.file tx.0 key
-            (rose (T.device_failures self.old.table) (T.device_failures self.new.table))
-            result self.new.file }
-        ensures refused { IfSome (key_refusal true self.old.file tx.0 key)
-            (λ refusal. (refusal_by remove_refusal result ≡ Some refusal) × (self.new ≡ self.old)) }
-        ensures refused_only { IfErr result (λ fault. IsTrue (by_file (remove_refusal fault))
-            → key_refusal true self.old.file tx.0 key ≡ Some (remove_refusal fault)) }
-        ensures accepted { IfOk result (λ before. Accepts self.old.file self.old.log
-            (key_change tx key (Some before) (Some None)) self.new.file self.new.log) }
-        ensures err { OnErr result ((T.contents self.new.table ≡ T.contents self.old.table)
-            × (self.new.file ≡ self.old.file) × (self.new.log ≡ self.old.log)) }
-        ensures table { ChangesTable T.TableState self.old (cause_by remove_refusal result) self.new }
-        ensures memory { AsksMemory (T.memory_refusals self.old.table) (cause_by remove_refusal result)
-            (T.memory_refusals self.new.table) }
-        ensures damaged { NeverDamaged (T.sound self.old.table) (cause_by remove_refusal result) }
-        ensures asks { Asks (MayRemove (is_some (key_refusal true self.old.file tx.0 key)) result)
-            (seen T.TableState self.old) (cause_by remove_refusal result) (seen T.TableState self.new) }
+        ensures { Made T.TableState self.old (Remove tx key result) self.new }
     {
         self.allow_change(tx, &key)?;
         if self.table.get(&key)?.is_none() {

@@ -1,18 +1,9 @@
-ghost use Rattle.std.specs.Prelude.{◌≡◌, ◌+◌, ◌<◌, true, false, is_some, Option, Some, None, Ok, Err, IsTrue, IfOk, IfErr, IfSome, OnOk, map};
-ghost use Rattle.std.specs.FinMap as maps;
-ghost use Rattle.rec_types.specs.History.{log_len};
-ghost use Rattle.tx_log.specs.Log.{record_at};
-ghost use Rattle.rec_types.specs.Table.{greatest_count};
-ghost use Rattle.record_file.specs.Abstract.{charged_of, use_of, IsKeptFile};
+ghost use Rattle.std.specs.Prelude.{◌≡◌, Ok, IfOk, map};
+ghost use Rattle.record_file.specs.Abstract.{IsKeptFile};
 ghost use Rattle.tx_log.specs.LogState.{open_in, history_in};
-ghost use Rattle.record_file.specs.Outside.{AsksMemory, NeverDamaged};
-ghost use Rattle.record_file.specs.Refusals.{get_refusal, entries_refusal, refusal_by, cause_by, by_file};
-ghost use Rattle.record_file.specs.TableCalls.{LeavesTable};
-ghost use Rattle.record_file.specs.Asked.{looked_unless};
-ghost use Rattle.rec_types.specs.Calls.{with_list};
 ghost use Rattle.record_file.specs.Durable.{ChangesStep, Keeps};
-ghost use Rattle.record_file.specs.Runs.{Commit};
-ghost use Rattle.record_file.specs.Steps.{rose, key_refusal, GetStep, EntriesStep, TellOwners, KeysOfStep, entry_with, listed, status_of};
+ghost use Rattle.record_file.specs.Runs.{Made, Get, Commit, Entries, KeysOf, StatusOf, Charged, Begun, LogLen, LogUse, RecordAt};
+ghost use Rattle.record_file.specs.Steps.{entry_with, listed};
 
 use super::RecordFile;
 use crate::fault::{ChangesFault, EntriesFault, GetFault, KeysOfFault, Status, StatusFault};
@@ -23,21 +14,7 @@ use tx_log::{LogRecord, Phase, TxLog};
 impl<T: Table> RecordFile<T> {
     /// The record at the key. Faults: NoSuchTx, Rolling, Held, Device or Damaged. It takes no memory.
     pub fn get(&mut self, tx: TxId, key: &Key) -> Result<Option<Record>, GetFault>
-        ensures step { IsTrue (T.sound self.old.table)
-            → T.device_failures self.old.table < greatest_count
-            → GetStep self.old.file tx.0 key.now
-            (rose (T.device_failures self.old.table) (T.device_failures self.new.table))
-            result self.new.file }
-        ensures refused { IfSome (key_refusal false self.old.file tx.0 key.now)
-            (λ refusal. (refusal_by get_refusal result ≡ Some refusal) × (self.new ≡ self.old)) }
-        ensures refused_only { IfErr result (λ fault. IsTrue (by_file (get_refusal fault))
-            → key_refusal false self.old.file tx.0 key.now ≡ Some (get_refusal fault)) }
-        ensures table { LeavesTable T.TableState self.old (cause_by get_refusal result) self.new }
-        ensures memory { T.memory_refusals self.new.table ≡ T.memory_refusals self.old.table }
-        ensures damaged { NeverDamaged (T.sound self.old.table) (cause_by get_refusal result) }
-        ensures asks { T.calls self.new.table
-            ≡ looked_unless (is_some (key_refusal false self.old.file tx.0 key.now))
-            (T.calls self.old.table) }
+        ensures { Made T.TableState self.old (Get tx key.now result) self.new }
     {
         self.allow_look(tx, key)?;
         Ok(self.table.get(key)?)
@@ -46,17 +23,7 @@ impl<T: Table> RecordFile<T> {
     /// The records in key order, each with the transaction that owns its key. Faults: Device or Damaged,
     /// Memory.
     pub fn entries(&mut self) -> Result<Vec<Entry>, EntriesFault>
-        ensures step { IsTrue (T.sound self.old.table)
-            → T.device_failures self.old.table < greatest_count
-            → EntriesStep self.old.file
-            (rose (T.device_failures self.old.table) (T.device_failures self.new.table))
-            (listed result) self.new.file }
-        ensures owners { IfOk result (λ entries. TellOwners self.old.file entries.items) }
-        ensures table { LeavesTable T.TableState self.old (cause_by entries_refusal result) self.new }
-        ensures memory { AsksMemory (T.memory_refusals self.old.table) (cause_by entries_refusal result)
-            (T.memory_refusals self.new.table) }
-        ensures damaged { NeverDamaged (T.sound self.old.table) (cause_by entries_refusal result) }
-        ensures asks { T.calls self.new.table ≡ with_list (T.calls self.old.table) }
+        ensures { Made T.TableState self.old (Entries (listed result)) self.new }
     {
         let records = self.table.entries()?;
         let entries = with_owners(*records.allocator(), &self.log, &records)?;
@@ -65,7 +32,7 @@ impl<T: Table> RecordFile<T> {
 
     /// The keys that an open transaction owns, in order. Faults: NoSuchTx, Memory.
     pub fn keys_of(&self, tx: TxId) -> Result<Vec<Key>, KeysOfFault>
-        ensures { KeysOfStep self.now.file tx.0 (listed result) }
+        ensures { Made T.TableState self.now (KeysOf tx (listed result)) self.now }
     {
         if self.log.phase(tx).is_none() {
             return Err(KeysOfFault::NoSuchTx);
@@ -90,7 +57,7 @@ impl<T: Table> RecordFile<T> {
 
     /// What an open transaction is doing. Fault: NoSuchTx. It takes no memory.
     pub fn status(&self, tx: TxId) -> Result<Status, StatusFault>
-        ensures { result ≡ status_of self.now.file tx.0 }
+        ensures { Made T.TableState self.now (StatusOf tx result) self.now }
     {
         match self.log.phase(tx) {
             None => Err(StatusFault::NoSuchTx),
@@ -107,7 +74,7 @@ impl<T: Table> RecordFile<T> {
 
     /// How many transactions were begun. Its contract tells what stays true of a file from call to call.
     pub fn begun(&self) -> u32
-        ensures value { result ≡ self.now.file.begun }
+        ensures made { Made T.TableState self.now (Begun result) self.now }
         ensures kept { IsKeptFile (T.sound self.now.table) (T.contents self.now.table)
             (T.record_limit self.now.table) self.now.file self.now.log }
     {
@@ -117,28 +84,28 @@ impl<T: Table> RecordFile<T> {
     /// How many keys have a record or an owner. A table that isn't sound may count anything. It takes no
     /// memory.
     pub fn charged(&self) -> u64
-        ensures { IsTrue (T.sound self.now.table) → result ≡ maps.len (charged_of self.now.file) }
+        ensures { Made T.TableState self.now (Charged result) self.now }
     {
         u64::from(self.table.count()) + u64::from(self.log.absent_owned())
     }
 
     /// The length of the log.
     pub fn log_len(&self) -> u32
-        ensures { result ≡ log_len self.now.file.history }
+        ensures { Made T.TableState self.now (LogLen result) self.now }
     {
         self.log.len()
     }
 
     /// The length of the log, and the live changes of open transactions.
     pub fn log_use(&self) -> u32
-        ensures { result ≡ use_of self.now.file }
+        ensures { Made T.TableState self.now (LogUse result) self.now }
     {
         self.log.log_use()
     }
 
     /// The log record with this number; they count from 1.
     pub fn log_record(&self, lsn: u32) -> Option<LogRecord>
-        ensures { result ≡ record_at self.now.log lsn }
+        ensures { Made T.TableState self.now (RecordAt lsn result) self.now }
     {
         self.log.entry_at(lsn)
     }

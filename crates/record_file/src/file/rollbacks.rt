@@ -1,18 +1,19 @@
-ghost use Rattle.std.specs.Prelude.{◌≡◌, ◌<◌, ◌≤◌, true, false, Some, None, Ok, Err, IsTrue, OnOk, OnErr, IfSome};
+ghost use Rattle.std.specs.Prelude.{◌≡◌, ◌<◌, ◌≤◌, true, false, Some, None, Ok, Err, IsTrue, OnOk, OnErr};
 ghost use Rattle.std.specs.FinMap as maps;
 ghost use Rattle.rec_types.specs.History.{undo_last};
-ghost use Rattle.rec_types.specs.Table.{counted, greatest_count};
+ghost use Rattle.rec_types.specs.Table.{counted};
 ghost use Rattle.rec_types.specs.Answered.{Answered};
 ghost use Rattle.record_file.specs.Abstract.{tx_of, phase_at, with_txs};
 ghost use Rattle.tx_log.specs.Transactions.{depth_of, left_in};
 ghost use Rattle.tx_log.specs.LogState.{rolling_to, finished, IsRolling};
 ghost use Rattle.record_file.specs.Outside.{by_memory, NeverDamaged};
-ghost use Rattle.record_file.specs.Refusals.{rollback_refusal, abort_refusal, resume_refusal, stop_refusal, refusal_by, cause_by};
+ghost use Rattle.record_file.specs.Refusals.{stop_refusal, cause_by};
+ghost use Rattle.record_file.specs.Runs.{Made, RollbackTo, Abort, Resume};
 ghost use Rattle.record_file.specs.declared.refusal.Refusal.TheVariants.{Failed};
 ghost use Rattle.record_file.specs.TableCalls.{ChangesTable, undone_by, step_key};
 ghost use Rattle.record_file.specs.Asked.{UndoAsks, StepAsks, restores};
 ghost use Rattle.record_file.specs.Seen.{seen};
-ghost use Rattle.record_file.specs.Steps.{rose, RollsBackTo, RollbackToStep, Aborts, AbortStep, Resumes, ResumeStep, tx_refusal, returning_refusal, resuming_refusal, RollsBack, RollsFrom, EndsBy, places_at};
+ghost use Rattle.record_file.specs.Steps.{RollsBack, RollsFrom, places_at};
 
 use super::RecordFile;
 use crate::fault::{AbortFault, Cause, ResumeFault, RollbackToFault, Stop};
@@ -24,21 +25,7 @@ impl<T: Table> RecordFile<T> {
     /// beginning. Savepoint n stays, and those above it are dropped at once. Faults: NoSuchTx, Rolling,
     /// NoSuchSave, Stopped. A stop leaves the transaction rolling.
     pub fn rollback_to(&mut self, tx: TxId, n: u32) -> Result<u32, RollbackToFault>
-        ensures step { IsTrue (T.sound self.old.table)
-            → T.device_failures self.old.table < greatest_count
-            → T.memory_refusals self.old.table < greatest_count
-            → RollbackToStep self.old.file tx.0 n
-            (rose (T.device_failures self.old.table) (T.device_failures self.new.table))
-            (rose (T.memory_refusals self.old.table) (T.memory_refusals self.new.table))
-            result self.new.file }
-        ensures rolled { RollsBackTo self.old.file tx.0 n result self.new.file }
-        ensures refused { IfSome (returning_refusal self.old.file tx.0 n)
-            (λ refusal. (refusal_by rollback_refusal result ≡ Some refusal) × (self.new ≡ self.old)) }
-        ensures table { ChangesTable T.TableState self.old (cause_by rollback_refusal result) self.new }
-        ensures memory { T.memory_refusals self.new.table
-            ≡ counted (T.memory_refusals self.old.table) (by_memory (cause_by rollback_refusal result)) }
-        ensures damaged { NeverDamaged (T.sound self.old.table) (cause_by rollback_refusal result) }
-        ensures asks { UndoAsks (seen T.TableState self.old) (cause_by rollback_refusal result) (seen T.TableState self.new) }
+        ensures { Made T.TableState self.old (RollbackTo tx n result) self.new }
     {
         match self.log.phase(tx) {
             None => Err(RollbackToFault::NoSuchTx),
@@ -55,21 +42,7 @@ impl<T: Table> RecordFile<T> {
     /// Takes back every change of the transaction, newest first, and ends it. Faults: NoSuchTx, Rolling,
     /// Stopped. A stop leaves the transaction rolling; it ends once its rollback is finished.
     pub fn abort(&mut self, tx: TxId) -> Result<u32, AbortFault>
-        ensures step { IsTrue (T.sound self.old.table)
-            → T.device_failures self.old.table < greatest_count
-            → T.memory_refusals self.old.table < greatest_count
-            → AbortStep self.old.file tx.0
-            (rose (T.device_failures self.old.table) (T.device_failures self.new.table))
-            (rose (T.memory_refusals self.old.table) (T.memory_refusals self.new.table))
-            result self.new.file }
-        ensures rolled { Aborts self.old.file tx.0 result self.new.file }
-        ensures refused { IfSome (tx_refusal self.old.file tx.0 None)
-            (λ refusal. (refusal_by abort_refusal result ≡ Some refusal) × (self.new ≡ self.old)) }
-        ensures table { ChangesTable T.TableState self.old (cause_by abort_refusal result) self.new }
-        ensures memory { T.memory_refusals self.new.table
-            ≡ counted (T.memory_refusals self.old.table) (by_memory (cause_by abort_refusal result)) }
-        ensures damaged { NeverDamaged (T.sound self.old.table) (cause_by abort_refusal result) }
-        ensures asks { UndoAsks (seen T.TableState self.old) (cause_by abort_refusal result) (seen T.TableState self.new) }
+        ensures { Made T.TableState self.old (Abort tx result) self.new }
     {
         match self.log.phase(tx) {
             None => Err(AbortFault::NoSuchTx),
@@ -81,21 +54,7 @@ impl<T: Table> RecordFile<T> {
     /// Goes on with a rollback that was stopped, and answers how many changes this call took back. Faults:
     /// NoSuchTx, NotRolling, Stopped.
     pub fn resume(&mut self, tx: TxId) -> Result<u32, ResumeFault>
-        ensures step { IsTrue (T.sound self.old.table)
-            → T.device_failures self.old.table < greatest_count
-            → T.memory_refusals self.old.table < greatest_count
-            → ResumeStep self.old.file tx.0
-            (rose (T.device_failures self.old.table) (T.device_failures self.new.table))
-            (rose (T.memory_refusals self.old.table) (T.memory_refusals self.new.table))
-            result self.new.file }
-        ensures rolled { Resumes self.old.file tx.0 result self.new.file }
-        ensures refused { IfSome (resuming_refusal self.old.file tx.0)
-            (λ refusal. (refusal_by resume_refusal result ≡ Some refusal) × (self.new ≡ self.old)) }
-        ensures table { ChangesTable T.TableState self.old (cause_by resume_refusal result) self.new }
-        ensures memory { T.memory_refusals self.new.table
-            ≡ counted (T.memory_refusals self.old.table) (by_memory (cause_by resume_refusal result)) }
-        ensures damaged { NeverDamaged (T.sound self.old.table) (cause_by resume_refusal result) }
-        ensures asks { UndoAsks (seen T.TableState self.old) (cause_by resume_refusal result) (seen T.TableState self.new) }
+        ensures { Made T.TableState self.old (Resume tx result) self.new }
     {
         match self.log.phase(tx) {
             None => Err(ResumeFault::NoSuchTx),
@@ -110,12 +69,6 @@ impl<T: Table> RecordFile<T> {
         requires within { n ≤ depth_of (tx_of self.old.file tx.0) }
         requires whole { IsTrue ends → n ≡ 0 }
         ensures rolled { RollsFrom self.old.file tx.0 n ends result self.new.file }
-        ensures ended { IsTrue (T.sound self.old.table)
-            → T.device_failures self.old.table < greatest_count
-            → T.memory_refusals self.old.table < greatest_count
-            → EndsBy (rose (T.device_failures self.old.table) (T.device_failures self.new.table))
-            (rose (T.memory_refusals self.old.table) (T.memory_refusals self.new.table))
-            (cause_by stop_refusal result) }
         ensures table { ChangesTable T.TableState self.old (cause_by stop_refusal result) self.new }
         ensures memory { T.memory_refusals self.new.table
             ≡ counted (T.memory_refusals self.old.table) (by_memory (cause_by stop_refusal result)) }

@@ -1,26 +1,9 @@
-use Rattle.std.proofs.Common.{[], ◌∷◌, false, refl, ap}
+use Rattle.std.proofs.Common.{Ok, refl}
+use Rattle.command_text.specs.declared.command.Command.TheVariants as commands
 use Rattle.command_text.specs.declared.reply.Reply.TheVariants as replies
-use Rattle.record_file.specs.Runs.{seen_as, undoubted, Begin}
-use Rattle.recfile.proofs.CallRunLemmas.{file_undoubted, quiet}
-use Rattle.record_file.specs.Seen.{doubt_of}
+use Rattle.record_file.specs.Runs.{Begin}
+use Rattle.recfile.proofs.CallRunLemmas.{told_by}
 use Rattle.recfile.proofs.call.begin.Goals as goal
 
 pub returns : goal.returns
-returns g c =
-    record {
-      told = λ logged was is.
-          let old = undoubted (seen_as logged g.T.TableState c.args.file.now) in
-          let new = undoubted (seen_as logged g.T.TableState c.begin.new.self) in (
-            replies.Begin c.begin.result,
-            record {
-              events = record { called = Begin c.begin.result; failed = false; refused = false } ∷ [];
-              told = refl;
-              kept = tt;
-              alone = λ _. refl;
-              doubt = ap (doubt_of logged g.T.TableState) c.begin.ensures.table;
-              ran = let same = file_undoubted g.T.TableState c.args.file.now c.begin.new.self c.begin.ensures.table c.begin.ensures.log logged in quiet old new (Begin c.begin.result) refl was is same ((refl, refl, same), c.begin.ensures.step);
-            },
-            c.tell.ensures,
-          );
-      moves_so = (ap (λ x. g.T.TableState.origin x) c.begin.ensures.table);
-    }
+returns g c = told_by g.T.TableState c.args.file.now c.begin.new.self (Begin c.begin.result) c.begin.ensures (Ok commands.Begin) (replies.Begin c.begin.result) c.tell.result _ (λ logged. refl) (λ logged. tt) (λ logged same. same) refl c.tell.ensures

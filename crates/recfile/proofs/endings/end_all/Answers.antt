@@ -41,7 +41,7 @@ loop-number-preserved g c =
 
 pub returns-clause-ended : goal.returns-clause-ended
 returns-clause-ended g c =
-    let all : c.loop-number.number ≡ c.args.file.now.file.begun = omega (arith, c.loop-number-test.false, c.loop-number.auto.number-end, c.begun-number-end.ensures.value) in
+    let all : c.loop-number.number ≡ c.args.file.now.file.begun = omega (arith, c.loop-number-test.false, c.loop-number.auto.number-end, c.begun-number-end.ensures.made.happens.answer.1) in
     all_ended c.args.file.now.file c.loop-number.file.file c.loop-number.ended c.begun-number-end.ensures.kept.opens (subst (λ (k : ℕ). EndsBelow c.args.file.now.file (k + 1) c.loop-number.file.file) all c.loop-number.invariant.ended) c.loop-number.invariant.count
 
 pub returns-clause-records : goal.returns-clause-records

@@ -18,13 +18,13 @@ pub returns-clause-run : goal.returns-clause-run
 returns-clause-run c = run_compensates
 
 pub returns-clause-rollback_to : goal.returns-clause-rollback_to
-returns-clause-rollback_to c = λ old new failed refused t n undone step. ap (λ (f : File). f.history) step.answer.1.rolled.1.1
+returns-clause-rollback_to c = λ old new failed refused t n undone step. ap (λ (f : File). f.history) step.happens.answer.1.rolled.1.1
 
 pub returns-clause-abort : goal.returns-clause-abort
-returns-clause-abort c = λ old new failed refused t undone step. ap (λ (f : File). f.history) step.answer.1.rolled.1.1
+returns-clause-abort c = λ old new failed refused t undone step. ap (λ (f : File). f.history) step.happens.answer.1.rolled.1.1
 
 pub returns-clause-resume : goal.returns-clause-resume
-returns-clause-resume c = λ old new failed refused t undone step. ap (λ (f : File). f.history) step.answer.1.rolled.1.1
+returns-clause-resume c = λ old new failed refused t undone step. ap (λ (f : File). f.history) step.happens.answer.1.rolled.1.1
 
 pub returns-clause-twice : goal.returns-clause-twice
 returns-clause-twice c = λ sound m f exact. absurd (omega (arith, exact.compensated [] _ _ refl refl))

@@ -18,6 +18,6 @@ pub returns-clause-differs : goal.returns-clause-differs
 returns-clause-differs c = λ old new t key value other start empty ran.
     let first = ran.1 in
     let put = ran.2.1 in
-    let sound = first.sound ∙ start.sound in
-    let stood = accepted_stood ran.0 ran.2.0 t key (Some other) (Some (Some value)) sound (put.sound ∙ sound) put.kept put.keeps (put.answer.1.opening sound) put.answer.1.accepted in
-    absurd (cc (stood ∙ ap (λ (n : Contents). get n key) (ap records_of first.answer.1.2 ∙ ap records_of start.file ∙ empty) ∙ get-empty (slice_cmp nat_cmp) key))
+    let sound = first.happens.sound ∙ start.sound in
+    let stood = accepted_stood ran.0 ran.2.0 t key (Some other) (Some (Some value)) sound (put.happens.sound ∙ sound) put.kept put.keeps (put.happens.answer.1.opening sound) put.happens.answer.1.accepted in
+    absurd (cc (stood ∙ ap (λ (n : Contents). get n key) (ap records_of first.happens.answer.1.2 ∙ ap records_of start.file ∙ empty) ∙ get-empty (slice_cmp nat_cmp) key))

@@ -26,17 +26,19 @@ returns-clause-begins c = λ old limits kept some is tx one.
       record {
         kept = kept;
         keeps = first_kept old limits kept some is;
-        undamaged = λ sound page named. absurd (cc named);
-        failures = refl;
-        refusals = refl;
-        sound = refl;
-        logged = refl;
-        commits = λ _. refl;
-        told = tells_none old.sound old.records old.records old.log old.log refl refl;
-        answer = (
-          (refl, refl, refl),
-          (omega (arith, none, limit, some), one ∙ sym begun, λ i. record old.file { begun = sym begun i; txs = sym txs i }),
-        );
+        happens = record {
+          undamaged = λ sound page named. absurd (cc named);
+          failures = refl;
+          refusals = refl;
+          sound = refl;
+          logged = refl;
+          commits = λ _. refl;
+          told = tells_none old.sound old.records old.records old.log old.log refl refl;
+          answer = (
+            (refl, refl, refl),
+            (omega (arith, none, limit, some), one ∙ sym begun, λ i. record old.file { begun = sym begun i; txs = sym txs i }),
+          );
+        };
       },
       refl,
     )
@@ -59,7 +61,7 @@ pub returns-clause-room : goal.returns-clause-room
 returns-clause-room c = λ old new limits tx key value failed refused also_failed also_refused sound zero some is run.
     let first = run.1 in
     let then = run.2.1 in
-    let mid_is = first.answer.1.2 ∙ ap (λ (f : File). let g : File = record f { begun = old.file.begun + 1; txs = maps.insert old.file.txs (old.file.begun + 1) fresh } in g) is in
-    let few = ap (λ (s : Seen). s.failures) first.answer.0.2 ∙ zero in
+    let mid_is = first.happens.answer.1.2 ∙ ap (λ (f : File). let g : File = record f { begun = old.file.begun + 1; txs = maps.insert old.file.txs (old.file.begun + 1) fresh } in g) is in
+    let few = ap (λ (s : Seen). s.failures) first.happens.answer.0.2 ∙ zero in
     not_full run.0.file limits key (old.file.begun + 1) (maps.insert old.file.txs (old.file.begun + 1) fresh) mid_is some
-    (then.answer.1.step (first.sound ∙ sound) (omega (arith, few))).0.2
+    (then.happens.answer.1.step (first.happens.sound ∙ sound) (omega (arith, few))).0.2

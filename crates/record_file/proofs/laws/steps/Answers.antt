@@ -11,12 +11,12 @@ returns-clause-unlogged c = λ old new failed refused t n undone step some same.
 
 pub returns-clause-records : goal.returns-clause-records
 returns-clause-records c = λ old new failed refused t n undone sound step.
-    step.keeps.replayed (step.sound ∙ sound) ∙ (λ i. replay (step.answer.1.opening sound i) (step.answer.1.rolled.1.1 i).history)
+    step.keeps.replayed (step.happens.sound ∙ sound) ∙ (λ i. replay (step.happens.answer.1.opening sound i) (step.happens.answer.1.rolled.1.1 i).history)
 
 pub returns-clause-numbers : goal.returns-clause-numbers
 returns-clause-numbers c = λ old new failed refused t key value before lsn prev step is.
-    let same = append_cancel_left old.log _ _ (sym is ∙ step.answer.1.accepted.logged) in
+    let same = append_cancel_left old.log _ _ (sym is ∙ step.happens.answer.1.accepted.logged) in
     (first_lsn _ _ same, first_prev _ _ same)
 
 pub returns-clause-damaged : goal.returns-clause-damaged
-returns-clause-damaged c = λ old new failed refused t n undone left page sound step. step.undamaged sound page refl
+returns-clause-damaged c = λ old new failed refused t n undone left page sound step. step.happens.undamaged sound page refl

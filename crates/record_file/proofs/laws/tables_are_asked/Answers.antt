@@ -22,23 +22,23 @@ looked_twice false old new is = one_more true old.gets new.gets (ap (λ (c : Tab
 
 pub returns-clause-twice : goal.returns-clause-twice
 returns-clause-twice c = λ old new failed refused t key found run none two.
-    looked_twice _ old.calls run.0.calls run.1.answer.1.asks none (ap (λ (s : Seen). s.calls.gets) (sym run.2) ∙ two)
+    looked_twice _ old.calls run.0.calls run.1.happens.answer.1.asks none (ap (λ (s : Seen). s.calls.gets) (sym run.2) ∙ two)
 
 pub returns-clause-unset : goal.returns-clause-unset
 returns-clause-unset c = λ old new failed refused t key value before run none still.
-    let asks = run.1.answer.1.asks in
+    let asks = run.1.happens.answer.1.asks in
     counted_none asks.asked.sets old.calls.sets run.0.calls.sets asks.allowed.accepted (ap (λ (k : TableCalls). k.sets) asks.calls) none (ap (λ (s : Seen). s.calls.sets) (sym run.2) ∙ still)
 
 pub returns-clause-taken_twice : goal.returns-clause-taken_twice
 returns-clause-taken_twice c = λ old new failed refused t n undone lsn prev next key before run is none two.
-    let asks = run.1.answer.1.asks in
+    let asks = run.1.happens.answer.1.asks in
     let same = append_cancel_left old.log _ _ (sym asks.grown ∙ ap (λ (s : Seen). s.log) (sym run.2) ∙ is) in
     one_more true old.calls.sets run.0.calls.sets (asks.sets ∙ ap (λ (rs : List LogRecord). sets_told old.calls.sets rs) same) none (ap (λ (s : Seen). s.calls.sets) (sym run.2) ∙ two)
 
 pub returns-clause-listed_twice : goal.returns-clause-listed_twice
 returns-clause-listed_twice c = λ old new failed refused answer run none two.
-    one_more true old.calls.lists run.0.calls.lists (ap (λ (k : TableCalls). k.lists) run.1.answer.1.asks) none (ap (λ (s : Seen). s.calls.lists) (sym run.2) ∙ two)
+    one_more true old.calls.lists run.0.calls.lists (ap (λ (k : TableCalls). k.lists) run.1.happens.answer.1.asks) none (ap (λ (s : Seen). s.calls.lists) (sym run.2) ∙ two)
 
 pub returns-clause-looking : goal.returns-clause-looking
 returns-clause-looking c = λ old new failed refused t run none one.
-    absurd (omega (arith, ap (λ (s : Seen). s.calls.gets) run.1.answer.0.2, ap (λ (s : Seen). s.calls.gets) run.2, none, one))
+    absurd (omega (arith, ap (λ (s : Seen). s.calls.gets) run.1.happens.answer.0.2, ap (λ (s : Seen). s.calls.gets) run.2, none, one))

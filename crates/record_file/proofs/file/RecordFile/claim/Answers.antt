@@ -1,5 +1,7 @@
-use Rattle.std.proofs.Common.{ℕ, ◌&&◌, true, not, is_some, is_none, false, List, Option, ◌≡◌, ◌≤◌, ◌+◌, None, IsTrue, ap, sym, subst, [], ◌∷◌, ◌++◌, ◌∙◌}
+use Rattle.std.proofs.Common.{rules, ℕ, Some, ◌&&◌, true, not, is_some, is_none, false, List, Option, ◌≡◌, ◌≤◌, ◌+◌, None, IsTrue, ap, sym, subst, [], ◌∷◌, ◌++◌, ◌∙◌}
 use Rattle.std.specs.FinMap as maps
+use Rattle.std.proofs.lemmas.Result.{err_from_is_err_and}
+use Rattle.record_file.specs.declared.refusal.Refusal.{Refusal}
 use Rattle.tx_log.specs.LogState.{LogState, use_in, update_in}
 use Rattle.tx_log.specs.declared.log_record.LogRecord.{LogRecord}
 use Rattle.record_file.specs.Abstract.{File, OpenFile, file_of, is_full, records_of, with_change}
@@ -7,6 +9,7 @@ use Rattle.record_file.specs.Steps.{key_refusal, Accepts, key_change}
 use Rattle.record_file.proofs.FaultLemmas.{rose_same}
 use Rattle.record_file.proofs.FullnessLemmas.{change_fits, room_now, stands_not_full}
 use Rattle.record_file.proofs.InvariantLemmas.{change_kept, change_file, change_accepted}
+use Rattle.record_file.proofs.MadeLemmas.{free_of, claim_made, claim_refused}
 use Rattle.record_file.proofs.TableCallLemmas.{changes_set}
 use Rattle.record_file.proofs.file.RecordFile.claim.Given as given
 use Rattle.record_file.proofs.file.RecordFile.claim.Goals as goal
@@ -53,9 +56,12 @@ invariant_of-self-2 g c =
     (λ sound. room_now c.self.inside.log (g.T.TableState.contents c.self.inside.table) c.args.key (c.self.invariant.fits sound)
     (sym (not_full g place (sym (sound_is g place) ∙ sound)) ∙ ap (λ (f : File). is_full f c.args.key) (sym (link g place))))
 
-pub returns-clause-step : goal.returns-clause-step
-returns-clause-step g c = λ sound lt.
-    let place = (goal.at.returns-clause-step g c).After-reserve in
+pub returns : goal.returns
+returns g c =
+    let place = (goal.at.returns g c).After-reserve in
+    let F = file_of c.accept_claim-lsn.new.self (g.T.TableState.contents c.get.new.self) in
+    claim_made g.T.TableState _ _ c.args.tx c.args.key _
+    (λ sound lt.
     let here = sound_is g place ∙ sound in
     let counts = c.in_ok-seen.ensures.answered.device ∙ ap (λ (s : OpenFile _). g.T.TableState.device_failures s.table) c.self.view_is in (
       none g place,
@@ -64,20 +70,34 @@ returns-clause-step g c = λ sound lt.
       stood g place sound,
       change_file _ _ _ c.self.inside.log c.self.invariant c.in_ok-reserve.ensures.kept (g.T.TableState.contents c.get.new.self) c.reserve.new.self c.accept_claim-lsn.new.self c.args.tx c.args.key c.in_ok-seen.seen c.copied-told.result _ c.in_ok-reserve.ensures.ok c.in_ok-seen.ensures.same (c.in_ok-seen.ensures.value here) (c.copied-told.ensures ∙ c.as_ref.ensures.value) c.accept_claim-lsn.ensures.after
           ∙ ap (λ (f : File). with_change f c.args.tx.0 c.args.key None) (link g place),
-    )
-
-pub returns-clause-accepted : goal.returns-clause-accepted
-returns-clause-accepted g c =
-    let F = file_of c.accept_claim-lsn.new.self (g.T.TableState.contents c.get.new.self) in
-    let place = (goal.at.returns-clause-accepted g c).After-reserve in
-    subst (λ (o : Option (List ℕ)). Accepts c.args.self.now.file c.args.self.now.log (key_change c.args.tx c.args.key o None) F c.accept_claim-lsn.new.self.records) (c.copied-told.ensures ∙ c.as_ref.ensures.value)
+    ))
+    (free_of _ _ (none g place))
+    tt
+    (subst (λ (o : Option (List ℕ)). Accepts c.args.self.now.file c.args.self.now.log (key_change c.args.tx c.args.key o None) F c.accept_claim-lsn.new.self.records) (c.copied-told.ensures ∙ c.as_ref.ensures.value)
     (subst (λ (l : List LogRecord). Accepts c.args.self.now.file l (key_change c.args.tx c.args.key c.copied-told.result None) F c.accept_claim-lsn.new.self.records) (ap (λ (s : OpenFile _). s.log) c.self.view_is)
     (subst (λ (f : File). Accepts f c.self.inside.log.records (key_change c.args.tx c.args.key c.copied-told.result None) F c.accept_claim-lsn.new.self.records) (link g place)
-    (change_accepted _ _ _ c.self.inside.log c.self.invariant c.in_ok-reserve.ensures.kept (g.T.TableState.contents c.get.new.self) c.reserve.new.self c.accept_claim-lsn.new.self c.args.tx c.args.key c.copied-told.result None c.in_ok-reserve.ensures.ok c.accept_claim-lsn.ensures.after)))
-
-pub returns-clause-table : goal.returns-clause-table
-returns-clause-table g c =
+    (change_accepted _ _ _ c.self.inside.log c.self.invariant c.in_ok-reserve.ensures.kept (g.T.TableState.contents c.get.new.self) c.reserve.new.self c.accept_claim-lsn.new.self c.args.tx c.args.key c.copied-told.result None c.in_ok-reserve.ensures.ok c.accept_claim-lsn.ensures.after))))
+    tt
     (changes_set g.T.TableState _ _ _ _ _ c.self.view_is c.in_ok-seen.ensures.answered
     (ap (λ (s : LogState). s.records) c.accept_claim-lsn.ensures.after ∙ ap (λ (s : LogState). s.records ++ update_in s c.args.tx c.args.key c.copied-told.result None ∷ []) c.in_ok-reserve.ensures.ok)
     (λ _. c.in_ok-seen.ensures.same)
     (λ here. ap (λ (f : File). f.opening) (change_file _ _ _ c.self.inside.log c.self.invariant c.in_ok-reserve.ensures.kept (g.T.TableState.contents c.get.new.self) c.reserve.new.self c.accept_claim-lsn.new.self c.args.tx c.args.key c.in_ok-seen.seen c.copied-told.result _ c.in_ok-reserve.ensures.ok c.in_ok-seen.ensures.same (c.in_ok-seen.ensures.value here) (c.copied-told.ensures ∙ c.as_ref.ensures.value) c.accept_claim-lsn.ensures.after)))
+    (search rules) (search rules) (search rules) (search rules)
+
+-- the file alone refuses it
+pub returns-in_err-allow_change : goal.returns-in_err-allow_change
+returns-in_err-allow_change g c =
+    let told = err_from_is_err_and c.from_residual.result c.from_residual.ensures.1 in
+    rw told.1 (claim_refused g.T.TableState c.args.self.now c.args.tx c.args.key told.0 (sym c.in_err-allow_change.ensures ∙ ap (λ (r : Refusal). Some r) (sym told.2)))
+
+-- a look failed
+pub returns-in_err-seen : goal.returns-in_err-seen
+returns-in_err-seen g c =
+    claim_made g.T.TableState _ _ c.args.tx c.args.key _
+    (search rules) (search rules) (search rules) (search rules) (search rules) (search rules) (search rules) (search rules) (search rules) (search rules)
+
+-- the log has no room
+pub returns-in_err-reserve : goal.returns-in_err-reserve
+returns-in_err-reserve g c =
+    claim_made g.T.TableState _ _ c.args.tx c.args.key _
+    (search rules) (search rules) (search rules) (search rules) (search rules) (search rules) (search rules) (search rules) (search rules) (search rules)

@@ -1,4 +1,4 @@
-use Rattle.std.proofs.Common.{sym, rules}
+use Rattle.std.proofs.Common.{rules}
 use Rattle.record_file.proofs.InvariantLemmas.{file_ended, file_same}
 use Rattle.record_file.proofs.file.RecordFile.commit_kept.Goals as goal
 

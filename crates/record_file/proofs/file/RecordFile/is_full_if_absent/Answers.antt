@@ -10,11 +10,11 @@ returns-then-charged-from-clause-value g c = λ sound.
     let key = c.args.key.now in
     let owner = c.owner.ensures ∙ ap (λ (s : OpenFile _). owner_of (open_of s.file) s.file.history key) c.self.view_is in
     let limits = ap (λ (s : OpenFile _). s.file.limits.records) c.self.view_is in
-    may_be_full_here c.args.self.now.file key c.charged.result c.owner.result (c.charged.ensures sound) (omega (arith, limits, c.self.invariant.limited, c.limit.ensures, c.from.ensures, c.if-charged-from.true)) owner c.is_none.result c.is_none.ensures
+    may_be_full_here c.args.self.now.file key c.charged.result c.owner.result (c.charged.ensures.happens.answer.1 sound) (omega (arith, limits, c.self.invariant.limited, c.limit.ensures, c.from.ensures, c.if-charged-from.true)) owner c.is_none.result c.is_none.ensures
 
 pub returns-then-charged-from-clause-full : goal.returns-then-charged-from-clause-full
 returns-then-charged-from-clause-full g c = λ sound.
     let key = c.args.key.now in
     let owner = c.owner.ensures ∙ ap (λ (s : OpenFile _). owner_of (open_of s.file) s.file.history key) c.self.view_is in
     let limits = ap (λ (s : OpenFile _). s.file.limits.records) c.self.view_is in
-    full_where_absent c.args.self.now.file key c.charged.result c.owner.result (c.charged.ensures sound) (omega (arith, limits, c.self.invariant.limited, c.limit.ensures, c.from.ensures, c.if-charged-from.true)) owner c.is_none.result c.is_none.ensures
+    full_where_absent c.args.self.now.file key c.charged.result c.owner.result (c.charged.ensures.happens.answer.1 sound) (omega (arith, limits, c.self.invariant.limited, c.limit.ensures, c.from.ensures, c.if-charged-from.true)) owner c.is_none.result c.is_none.ensures

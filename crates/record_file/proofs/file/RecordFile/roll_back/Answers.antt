@@ -2,10 +2,10 @@ use Rattle.std.proofs.Common.{ap, ◌∙◌}
 use Rattle.rec_types.specs.Table.{counted}
 use Rattle.record_file.specs.Refusals.{stop_refusal, cause_by}
 use Rattle.record_file.specs.Abstract.{OpenFile}
-use Rattle.record_file.specs.Outside.{by_device, by_memory}
+use Rattle.record_file.specs.Outside.{by_memory}
 use Rattle.record_file.specs.Seen.{seen}
 use Rattle.record_file.proofs.AskedLemmas.{undo_none, undo_then}
-use Rattle.record_file.proofs.RollbackLemmas.{is_rolling, started_rolls, ends_by}
+use Rattle.record_file.proofs.RollbackLemmas.{is_rolling, started_rolls}
 use Rattle.record_file.proofs.TableCallLemmas.{changes_none, changes_then}
 use Rattle.record_file.proofs.file.RecordFile.roll_back.Goals as goal
 
@@ -23,12 +23,6 @@ returns-clause-memory g c = c.take_back.ensures.memory ∙ ap (λ (s : OpenFile 
 
 pub returns-clause-damaged : goal.returns-clause-damaged
 returns-clause-damaged g c = λ sound. c.take_back.ensures.damaged (ap (λ (s : OpenFile _). g.T.TableState.sound s.table) c.start_rollback.ensures ∙ sound)
-
-pub returns-clause-ended : goal.returns-clause-ended
-returns-clause-ended g c = λ sound few fewer. ends_by (cause_by stop_refusal c.take_back.result) _ _ _ _ few fewer
-    (c.take_back.ensures.table.device ∙ ap (λ (s : OpenFile _). counted (g.T.TableState.device_failures s.table) (by_device (cause_by stop_refusal c.take_back.result))) c.start_rollback.ensures)
-    (returns-clause-memory g c)
-    (returns-clause-damaged g c sound)
 
 pub returns-clause-asks : goal.returns-clause-asks
 returns-clause-asks g c = undo_then (seen g.T.TableState c.args.self.now) (seen g.T.TableState c.start_rollback.new.self) (seen g.T.TableState c.take_back.new.self) (cause_by stop_refusal c.take_back.result) (undo_none g.T.TableState c.args.self.now c.start_rollback.new.self (ap (λ (s : OpenFile _). s.table) c.start_rollback.ensures) (ap (λ (s : OpenFile _). s.log) c.start_rollback.ensures)) c.take_back.ensures.asks
