@@ -1,14 +1,17 @@
 """The contracts stay readable: what several functions say is a word. A clause that is more than a word, one definition
-applied to what the function has, stands word for word at no more than five functions; and a function of a crate's own, which
-is neither public nor a method of a trait, has at most ten clauses."""
+applied to what the function has, stands word for word at no more than five functions. A function of a crate's own, which is
+neither public nor a method of a trait, has at most ten clauses. A public one promises at most ten things, as `claim`, which
+tells of one count of its table more than `put` and `remove` with their nine, and has at most twelve clauses with what it asks
+for: `distribute`, `open` and `run_kept` ask for three to five. A method of a trait may have more, since its clauses stand in
+the place of the trait's, and so may a law, of which each clause is a statement by itself."""
 import collections
 import pathlib
 import re
 import sys
 
-MOST_FUNCTIONS, MOST_CLAUSES = 5, 10
+MOST_FUNCTIONS, MOST_OWN, MOST_PROMISES, MOST_PUBLIC = 5, 10, 10, 12
 FUNCTION = re.compile(r"^(?P<indent> *)(?P<visibility>pub(?:\([a-z]+\))? )?(?:unsafe )?(?:extern \"C\" )?fn (?P<name>\w+)", re.M)
-CLAUSE = re.compile(r"\s*(?:ensures|requires)\s*(?:\w+\s*)?\{")
+CLAUSE = re.compile(r"\s*(?P<kind>ensures|requires)\s*(?:\w+\s*)?\{")
 BLOCK = re.compile(r"^(?:unsafe )?(?P<head>(?:pub )?trait |impl)(?P<rest>[^{]*)\{", re.M)
 WORD = re.compile(r"[\w.' ()⟦⟧<>,]+")
 
@@ -23,18 +26,27 @@ def closing(text, start):
 
 
 def clauses_of(text, place):
-    """The texts of the clauses of the function whose name ends at `place`."""
+    """The clauses of the function whose name ends at `place`, each its kind and its text."""
     found, depth = [], 0
     while True:
         clause = CLAUSE.match(text, place) if depth == 0 else None
         if clause:
             place = closing(text, clause.end())
-            found.append(" ".join(text[clause.end() : place - 1].split()))
+            found.append((clause["kind"], " ".join(text[clause.end() : place - 1].split())))
         elif depth == 0 and text[place] in "{;":
             return found
         else:
             depth += {"(": 1, "[": 1, ")": -1, "]": -1}.get(text[place], 0)
             place += 1
+
+
+def has_too_many(path, text, function, kinds):
+    """Whether the function has more clauses than one of its sort may."""
+    if is_method_of_trait(text, function) or path.name == "laws.rt":
+        return False
+    if function["visibility"] != "pub ":
+        return len(kinds) > MOST_OWN
+    return kinds.count("ensures") > MOST_PROMISES or len(kinds) > MOST_PUBLIC
 
 
 def is_method_of_trait(text, function):
@@ -51,10 +63,9 @@ for path in sorted(root.glob("crates/*/src/**/*.rt")):
     text = path.read_text()
     for function in FUNCTION.finditer(text):
         clauses = clauses_of(text, function.end())
-        for clause in clauses:
+        for _kind, clause in clauses:
             places[clause].append(f"{path.relative_to(root).parts[1]} {function['name']}")
-        own = function["visibility"] != "pub " and not is_method_of_trait(text, function)
-        if own and len(clauses) > MOST_CLAUSES:
+        if has_too_many(path, text, function, [kind for kind, _clause in clauses]):
             faults.append(f"{path.relative_to(root)}: {function['name']} has {len(clauses)} clauses")
 words = 0
 for clause, functions in places.items():

@@ -1,14 +1,19 @@
 -- The steps of a close, and what is there when it stops part-way.
 use Rattle.std.specs.Prelude.{◌≡◌, ℕ, ◌⊎◌, List, [], length, if◌then◌else◌}
-use Rattle.page_store.specs.PagesView.{memory_pages}
-use Rattle.page_store.specs.Journal.{writing_back}
+use Rattle.rec_types.specs.Table.{counted}
+use Rattle.page_store.specs.Fronts.{tried}
+use Rattle.page_store.specs.PagesView.{PagesView, memory_pages, with_writes}
+use Rattle.page_store.specs.Journal.{carried, writing_back}
+use Rattle.page_store.specs.declared.page_edit.WriteFault.{WriteFault}
+use Rattle.page_store.specs.declared.page_edit.WriteFault.TheVariants.{Memory}
 use Rattle.page_store.specs.declared.step.Step.{Step}
+use Rattle.page_store.specs.declared.store_state.StoreState.{Ghosts}
 use Rattle.btree_node.specs.declared.header.Header.{Header}
 use Rattle.btree_node.specs.HeaderSpelling.{header_spelling, clean_state, writing_state}
 use Rattle.btree_node.specs.Layout.{second_version}
 use Rattle.btree_node.specs.Lists.{Element}
 use Rattle.btree_insert.specs.declared.tree.Tree.{Tree}
-use Rattle.btree_delete.specs.CleanFile.{IsCleanFile}
+use Rattle.btree_delete.specs.CleanFile.{IsCleanFile, is_close_device_fault}
 use Rattle.btree_delete.specs.TableView.{TableView}
 
 -- the header of a table's file when it is closed
@@ -38,3 +43,22 @@ IsNewOrFile pages = (pages ≡ []) ⊎ IsFile pages
 -- the old file, or one that opening refuses, or the new one
 abbrev pub IsEither : List (List ℕ) → List (List ℕ) → List (List ℕ) → Type 0
 IsEither old new pages = (pages ≡ old) ⊎ (IsRefused pages ⊎ (pages ≡ new))
+
+-- where tries to carry these steps out stopped, there is one of the three, and carrying them out again leads to what they lead to at once
+pub record StopsAnywhere (steps : List Step) : Type 0 where
+  pub fronts : (old : List (List ℕ)) (ks : List ℕ) → IsNewOrFile old → IsEither old (carried old steps) (carried old (tried ks steps))
+  pub again : (old : List (List ℕ)) (ks : List ℕ) → carried (carried old (tried ks steps)) steps ≡ carried old steps
+
+-- the store of pages that were written back with no fault: it was not read
+pub record IsHandedOver {S : Type 0} (s : Ghosts S) (v : PagesView) (store : S) : Type 0 where
+  pub steady : s.steady store ≡ v.steady
+  pub opening : s.opening store ≡ v.opening
+  pub reads : s.reads store ≡ v.reads
+  pub shapes : s.shapes store ≡ v.shapes
+  pub failures : s.failures store ≡ v.failures
+
+-- a table that was not closed, for that fault: it is as it was, but for what writing left of its store
+pub record IsUnclosed (old : TableView) (fault : WriteFault) (t : TableView) : Type 0 where
+  pub device : t.pages.failures ≡ counted old.pages.failures (is_close_device_fault fault)
+  pub memory : fault ≡ Memory → t.pages.journal ≡ old.pages.journal
+  pub table : t ≡ record old { pages = with_writes old.pages t.pages }

@@ -12,5 +12,6 @@ pub mod Closing
 pub mod FileExamples
 pub mod TableView
 pub mod Origins
+pub mod Setting
 pub mod Created
 pub mod TableAnswers

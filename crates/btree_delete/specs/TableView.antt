@@ -13,7 +13,8 @@ use Rattle.btree_insert.specs.Contents.{contents_of}
 use Rattle.btree_insert.specs.Elements.{contents_at}
 use Rattle.rec_types.specs.Contents.{Contents}
 use Rattle.rec_types.specs.LimitBounds.{most_records}
-use Rattle.rec_types.specs.Table.{Damages}
+use Rattle.rec_types.specs.Calls.{no_calls}
+use Rattle.rec_types.specs.Table.{Damages, no_damage}
 use Rattle.rec_types.specs.declared.table_calls.TableCalls.{TableCalls}
 use Rattle.btree_delete.specs.declared.table.fault_counts.FaultCounts.{FaultCounts}
 use Rattle.btree_delete.specs.CleanFile.{IsCleanFile}
@@ -63,3 +64,10 @@ pub record IsTable (t : TableView) : Type 0 where
   pub spelt : AreSpeltIn t.tree.order t.pages
   pub holds : IsTrue t.pages.steady → HoldsTree t.pages t.tree
   pub closed : IsTrue t.pages.steady → t.pages.changed ≡ false → IsClosed second_version t.pages.stored t.pages.tail t.tree (table_contents t)
+
+-- a table of that limit that was not called yet, so that it has told of no fault
+pub record IsUncalled (most : ℕ) (t : TableView) : Type 0 where
+  pub limit : t.limit ≡ most
+  pub no_refusals : t.refusals ≡ 0
+  pub no_damages : t.damages ≡ no_damage
+  pub no_calls : t.calls ≡ no_calls

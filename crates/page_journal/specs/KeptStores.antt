@@ -1,11 +1,15 @@
 -- A store over a disk, which may be changed in any way that its calls allow and stands for the old file all the while.
-use Rattle.std.specs.Prelude.{◌≡◌, ℕ, ◌≤◌, Bool, true, false, cond, List, Option, is_some, length, slice_index_or, refl}
+use Rattle.std.specs.Prelude.{◌≡◌, ◌≢◌, ℕ, ◌≤◌, Bool, true, false, cond, List, Option, Result, Ok, Err, OnOk, is_some, length, slice_index_or, refl}
 use Rattle.std.specs.Coded.{Coded, code_by, coded×, coded_ℕ, coded_bool, coded_list, coded_option}
+use Rattle.rec_types.specs.Table.{counted}
 use Rattle.page_store.specs.Calls.{counted_times}
 use Rattle.page_store.specs.FreeNumbers.{greatest_page_count}
 use Rattle.page_store.specs.Guards as guards
 use Rattle.page_store.specs.Guards.{Guard}
 use Rattle.page_store.specs.Opening.{Opening}
+use Rattle.page_store.specs.StoreFaults.{is_failed}
+use Rattle.page_store.specs.declared.store_fault.StoreFault.{StoreFault}
+use Rattle.page_store.specs.declared.store_fault.StoreFault.TheVariants.{Failed, Memory}
 use Rattle.page_journal.specs.Files.{PageFile, Kept, Files, restored, recovered}
 use Rattle.page_journal.specs.Crash.{IsSettled, IsSealed, StandsFor, MayWrite}
 use Rattle.page_journal.specs.LoggedStores.{coded_place}
@@ -103,3 +107,17 @@ pub record IsGuarded {D : Type 0} (g : Ghosts D) (old : PageFile) (state : SealS
 -- the file that there was when the disk was opened
 abbrev pub old_file_of : {D : Type 0} → Ghosts D → D → PageFile
 old_file_of g disk = recovered (g.began disk)
+
+-- the file is as it was, and the disk as steady, and opened over the same files
+pub record KeepsFile {D : Type 0} (g : Ghosts D) (old new : D) : Type 0 where
+  pub same : (g.seen new).main ≡ (g.seen old).main
+  pub steady : g.steady new ≡ g.steady old
+  pub began : g.began new ≡ g.began old
+
+-- How the calls of a finish end. Where no page was to be kept aside there are none, and nor are there where keeping them failed, which is the fault then; else there are three, and one that fails is counted.
+pub record IsFinished {D : Type 0} (g : Ghosts D) (state : SealState) (old : D) (answer : Result (Unit {0}) StoreFault) (new : D) : Type 0 where
+  pub unsealed : state ≡ Unsealed → (new ≡ old) × (answer ≡ Ok tt)
+  pub moments : state ≡ Sealed → OnOk answer (counted_times (g.moment old) 3 ≤ g.moment new)
+  pub stopped : state ≡ Stopped → (new ≡ old) × (answer ≡ Err Failed)
+  pub failures : state ≢ Stopped → g.failures new ≡ counted (g.failures old) (is_failed answer)
+  pub no_memory : answer ≢ Err Memory

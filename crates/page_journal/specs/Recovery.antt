@@ -1,6 +1,8 @@
 -- Which faults a recovery answers.
-use Rattle.std.specs.Prelude.{Bool, true, false, Result, Ok, Err}
+use Rattle.std.specs.Prelude.{◌≡◌, Bool, true, false, Result, Ok, Err}
+use Rattle.rec_types.specs.Table.{counted}
 use Rattle.page_journal.specs.Files.{Files, Belongs}
+use Rattle.page_journal.specs.declared.disk_state.DiskState.{Ghosts}
 use Rattle.page_journal.specs.declared.recovery_fault.RecoveryFault.{RecoveryFault}
 use Rattle.page_journal.specs.declared.recovery_fault.RecoveryFault.TheVariants.{Device, BadJournal}
 
@@ -17,3 +19,9 @@ is_device (Err fault) = is_device_fault fault
 -- the side file is of another file
 abbrev pub IsForeign : Files → Type 0
 IsForeign f = Belongs f → ⊥
+
+-- what is left of the calls of a recovery, of which the last may have failed
+pub record RecoveryLeaves {D : Type 0} (g : Ghosts D) (old : D) (answer : Result (Unit {0}) RecoveryFault) (new : D) : Type 0 where
+  pub steady : g.steady new ≡ g.steady old
+  pub began : g.began new ≡ g.began old
+  pub failures : g.failures new ≡ counted (g.failures old) (is_device answer)

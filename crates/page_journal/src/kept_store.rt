@@ -1,9 +1,7 @@
-ghost use Rattle.std.specs.Prelude.{◌≡◌, ◌≢◌, ◌↔◌, ◌<◌, ◌≤◌, ◌-◌, ◌==◌, ◌++◌, ◌∷◌, ◌^◌, ℕ, Bool, List, [], true, false, Some, None, Ok, Err, length, IsTrue, IsOk, IsSome, IfOk, IfErr, MatchOption, OnOk, OnErr, slice_get, slice_set};
+ghost use Rattle.std.specs.Prelude.{◌≡◌, ◌≢◌, ◌↔◌, ◌<◌, ◌≤◌, ◌-◌, ◌==◌, ◌++◌, ◌∷◌, ◌^◌, ℕ, List, [], true, false, Some, None, Ok, Err, length, IsTrue, IsOk, IsSome, IfOk, IfErr, MatchOption, OnOk, OnErr, slice_set};
 ghost use Rattle.std.specs.List.{list_any};
 ghost use Rattle.rec_types.specs.Table.{counted};
-ghost use Rattle.rec_types.specs.Widths.{page_width};
 ghost use Rattle.page_store.specs.Blank.{blanks};
-ghost use Rattle.page_store.specs.Calls.{counted_times};
 ghost use Rattle.page_store.specs.FreeNumbers.{greatest_page_count};
 ghost use Rattle.page_store.specs.Growth.{GrowsTo};
 ghost use Rattle.page_store.specs.Guards.{SealsGuard};
@@ -17,8 +15,8 @@ ghost use Rattle.page_journal.specs.Logging.{HasLog, IsTextOf, SaysNoneOr};
 ghost use Rattle.page_journal.specs.LoggedStores.{FindsAll, FindsNow, LeavesWithCommits, MayFind, commits_in};
 ghost use Rattle.page_journal.specs.Steps.{CallSyncs, StaysBegun, StaysSteady};
 ghost use Rattle.page_journal.specs.Crash.{IsSettled, IsAtRest, StandsAs, StandsFor, IsEither};
-ghost use Rattle.page_journal.specs.Recovery.{IsForeign, is_device, is_device_fault};
-ghost use Rattle.page_journal.specs.KeptStores.{failures_with, guard_of, KeptStored, CanBeSealed, is_open, may_write_in};
+ghost use Rattle.page_journal.specs.Recovery.{IsForeign, RecoveryLeaves, is_device_fault};
+ghost use Rattle.page_journal.specs.KeptStores.{IsFinished, KeepsFile, failures_with, guard_of, KeptStored, CanBeSealed, is_open, may_write_in};
 
 mod file_sum;
 
@@ -197,9 +195,7 @@ impl<D: Disk + Drop> KeptStore<D> {
         requires short { length head.now ≤ 2 ^ 40 }
         requires head { IsCommit head.now }
         ensures begun { IfOk result (λ s. s ≡ record self { disk = s.disk; log = s.log }) }
-        ensures same { IfOk result (λ s. (D.seen s.disk).main ≡ (D.seen self.disk).main) }
-        ensures steady { IfOk result (λ s. D.steady s.disk ≡ D.steady self.disk) }
-        ensures began { IfOk result (λ s. D.began s.disk ≡ D.began self.disk) }
+        ensures keeps { IfOk result (λ s. KeepsFile D.DiskState self.disk s.disk) }
         ensures failures { IfOk result (λ s. D.failures s.disk ≡ D.failures self.disk) }
         ensures says { IsTrue (D.steady self.disk) → (unit : List (List ℕ)) → IsUnit unit
             → head.now ≡ unit_text unit
@@ -280,9 +276,7 @@ impl<D: Disk + Drop> KeptStore<D> {
 
     // Keeps the pages of these numbers aside, where none were. Faults: Failed, Memory.
     fn keep_aside(&mut self, numbers: &[u32]) -> Result<(), StoreFault>
-        ensures same { (D.seen self.new.disk).main ≡ (D.seen self.old.disk).main }
-        ensures opened { StaysSteady D.DiskState self.old.disk self.new.disk
-            × StaysBegun D.DiskState self.old.disk self.new.disk }
+        ensures keeps { KeepsFile D.DiskState self.old.disk self.new.disk }
         ensures commits { (D.seen self.new.disk).commits ≡ (D.seen self.old.disk).commits }
         ensures sealed { OnOk result ((self.new.state ≡ SealState.Sealed) × ((n : ℕ)
             → n < length (D.seen self.old.disk).main.pages
@@ -336,18 +330,8 @@ impl<D: Disk + Drop> KeptStore<D> {
             (IsSettled D.DiskState (D.seen self.disk).main result.0) }
         ensures any_moment { IsTrue (D.steady self.disk) → (c : Files) → D.left_since result.0 0 c
             → IsEither (recovered (D.began self.disk)) (D.seen self.disk).main c }
-        ensures same { (D.seen result.0).main ≡ (D.seen self.disk).main }
-        ensures steady { D.steady result.0 ≡ D.steady self.disk }
-        ensures began { D.began result.0 ≡ D.began self.disk }
-        ensures failures { self.state ≢ SealState.Stopped → D.failures result.0
-            ≡ counted (D.failures self.disk) (is_failed result.1) }
-        ensures moments { self.state ≡ SealState.Sealed → OnOk result.1
-            (counted_times (D.moment self.disk) 3 ≤ D.moment result.0) }
-        ensures unsealed { self.state ≡ SealState.Unsealed
-            → (result.0 ≡ self.disk) × (result.1 ≡ Ok tt) }
-        ensures stopped { self.state ≡ SealState.Stopped
-            → (result.0 ≡ self.disk) × (result.1 ≡ Err StoreFault.Failed) }
-        ensures no_memory { result.1 ≢ Err StoreFault.Memory }
+        ensures keeps { KeepsFile D.DiskState self.disk result.0 }
+        ensures finished { IsFinished D.DiskState self.state self.disk result.1 result.0 }
         ensures commits { IsTrue (D.steady self.disk) → (c : Files) → D.left_since result.0 0 c
             → LeavesWithCommits self.log (D.began self.disk)
             (commits_in self.log (D.seen self.disk)) self.doubt (recovered (D.began self.disk))
@@ -392,10 +376,7 @@ impl<D: Disk + Drop> KeptStore<D> {
             → (result.0 ≡ self.disk) × (result.1 ≡ Ok tt) }
         ensures bad_journal { result.1 ≡ Err RecoveryFault.BadJournal
             → D.seen result.0 ≡ D.seen self.disk }
-        ensures steady { D.steady result.0 ≡ D.steady self.disk }
-        ensures began { D.began result.0 ≡ D.began self.disk }
-        ensures device { D.failures result.0
-            ≡ counted (D.failures self.disk) (is_device result.1) }
+        ensures leaves { RecoveryLeaves D.DiskState self.disk result.1 result.0 }
     {
         let KeptStore {
             mut disk,

@@ -1,11 +1,10 @@
-ghost use Rattle.std.specs.Prelude.{◌≡◌, ◌≢◌, ◌↔◌, ◌<◌, ◌≤◌, ℕ, List, Some, Err, length, take, IsTrue, IfOk, IfSome, MatchOption, OnOk, slice_set};
-ghost use Rattle.rec_types.specs.Table.{counted};
+ghost use Rattle.std.specs.Prelude.{◌≡◌, ◌↔◌, ◌<◌, ◌≤◌, ℕ, List, Some, Err, length, IsTrue, IfOk, MatchOption, OnOk, slice_set};
 ghost use Rattle.page_store.specs.Calls.{counted_times};
 ghost use Rattle.page_journal.specs.Files.{Kept, IsOf, Belongs, AscendBelow, is_kept, recovered, restored};
 ghost use Rattle.page_journal.specs.Sums.{SumsOn, sum_without};
-ghost use Rattle.page_journal.specs.Steps.{CallDoes, CallsLeave, CountsFault, Stays, TornAt, side_shape, StaysBegun, StaysSteady};
+ghost use Rattle.page_journal.specs.Steps.{CallDoes, CallsLeave, CountsFault, Stays, TornAt, side_shape};
 ghost use Rattle.page_journal.specs.Crash.{LeavesLogs, LeavesOnly, IsSettled, IsSealed, IsAtRest, StandsAs, StandsFor, IsEither, MayWrite, PutsBack};
-ghost use Rattle.page_journal.specs.Recovery.{is_device, IsForeign};
+ghost use Rattle.page_journal.specs.Recovery.{IsForeign, RecoveryLeaves};
 ghost use Rattle.page_journal.specs.StandsBeside.{StandsBeside};
 
 use crate::beside::Beside;
@@ -189,8 +188,7 @@ pub(crate) fn look_beside<D: Disk>(disk: &mut D) -> Result<Beside, StoreFault>
 /// side file isn't one of the file, which has fewer pages than it had or others in the place of those that weren't kept:
 /// no closing leaves that, and nothing has changed then.
 pub fn recover<D: Disk>(disk: &mut D) -> Result<(), RecoveryFault>
-    ensures steady { StaysSteady D.DiskState disk.old disk.new }
-    ensures began { StaysBegun D.DiskState disk.old disk.new }
+    ensures leaves { RecoveryLeaves D.DiskState disk.old result disk.new }
     ensures logs { LeavesLogs D.DiskState disk.old disk.new }
     ensures recovered { IsTrue (D.steady disk.old) → IsAtRest D.DiskState disk.old → OnOk result
         (IsSettled D.DiskState (recovered (D.seen disk.old)) disk.new) }
@@ -202,7 +200,6 @@ pub fn recover<D: Disk>(disk: &mut D) -> Result<(), RecoveryFault>
     ensures taken_back_at_any_moment { IsTrue (D.steady disk.old) → (kept : Kept)
         (base : List (List ℕ)) → IsSealed D.DiskState kept base disk.old
         → LeavesOnly D.DiskState (StandsFor (restored kept base)) disk.old disk.new }
-    ensures device { D.failures disk.new ≡ counted (D.failures disk.old) (is_device result) }
     ensures bad_journal { IsTrue (D.steady disk.old) → result ≡ Err RecoveryFault.BadJournal
         → IsForeign (D.seen disk.old) }
     ensures belongs { IsTrue (D.steady disk.old) → OnOk result (Belongs (D.seen disk.old)) }

@@ -1,8 +1,12 @@
 -- A store that fails at chosen calls.
-use Rattle.std.specs.Prelude.{ℕ, ◌+◌, ◌==◌, min, Bool, true, List, refl}
+use Rattle.std.specs.Prelude.{◌≡◌, ℕ, ◌+◌, ◌==◌, min, Bool, true, false, List, Result, Err, IsTrue, refl}
 use Rattle.std.specs.Coded.{Coded, code_by, coded×, coded_ℕ, coded_list}
 use Rattle.std.specs.List.{list_any}
 use Rattle.rec_types.specs.Table.{counted, greatest_count}
+use Rattle.page_store.specs.StoreFaults.{is_failed}
+use Rattle.page_store.specs.declared.store_fault.StoreFault.{StoreFault}
+use Rattle.page_store.specs.declared.store_fault.StoreFault.TheVariants.{Failed}
+use Rattle.page_store.specs.declared.store_state.StoreState.{Ghosts}
 
 -- the store below, the numbers of the reads and of the changing calls that fail, how many of each there were, and how
 -- many of each failed here
@@ -45,3 +49,12 @@ writes_of writes s = min (writes s.inner + s.failed_writes) greatest_count
 -- how many calls failed, below and here; it stays at the greatest value of 64 bits
 abbrev pub failures_of : {S : Type 0} → (S → ℕ) → FlakyStored S → ℕ
 failures_of failures s = min (failures s.inner + (s.failed_reads + s.failed_writes)) greatest_count
+
+-- a changing call: it fails where its number is in the list, and the store below isn't called; else it is one such call of that store, whose failure is handed on
+pub record PassesWrite {S A : Type 0} (s : Ghosts S) (old : FlakyStored S) (answer : Result A StoreFault) (new : FlakyStored S) : Type 0 where
+  pub fails : IsTrue (write_fails old) → (answer ≡ Err Failed) × (new.inner ≡ old.inner)
+  pub passes : write_fails old ≡ false → s.failures new.inner ≡ counted (s.failures old.inner) (is_failed answer)
+  pub reads_below : s.reads new.inner ≡ s.reads old.inner
+  pub shapes_below : s.shapes new.inner ≡ s.shapes old.inner
+  pub writes_below : write_fails old ≡ false → s.writes new.inner ≡ counted (s.writes old.inner) true
+  pub rest : new ≡ record (with_write old (write_fails old)) { inner = new.inner }

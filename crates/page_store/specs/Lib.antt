@@ -21,6 +21,8 @@ pub mod PagesView
 pub mod Slots
 pub mod StoreCalls
 pub mod StoreFaults
+pub mod StoreUnder
 pub mod StoredPages
 pub mod WriteFaults
 pub mod WritingBack
+pub mod WrittenBack

@@ -1,5 +1,6 @@
 -- What contracts see of a store with changed pages in memory.
-use Rattle.std.specs.Prelude.{◌≡◌, ℕ, Bool, false, not, ◌&&◌, List, Option, None, is_some, if◌then◌else◌, slice_index_or}
+use Rattle.std.specs.Prelude.{◌≡◌, ℕ, Bool, true, false, not, ◌&&◌, List, Option, None, IsSome, is_some, if◌then◌else◌, slice_index_or}
+use Rattle.rec_types.specs.Table.{counted}
 use Rattle.page_store.specs.PageMap.{PageMap, at}
 use Rattle.page_store.specs.Guards.{Guard}
 use Rattle.page_store.specs.Journal.{Journal}
@@ -37,6 +38,10 @@ memory_pages v n = if is_in_memory v n then at v.pages n else None
 abbrev pub with_reads : PagesView → PagesView → PagesView
 with_reads old new = record old { reads = new.reads; failures = new.failures }
 
+-- the old pages, with what changing calls of the store change
+abbrev pub with_writes : PagesView → PagesView → PagesView
+with_writes old new = record old { stored = new.stored; tail = new.tail; writes = new.writes; failures = new.failures; journal = new.journal; guard = new.guard }
+
 -- pages were at most read
 abbrev pub OnlyReads : PagesView → PagesView → Type 0
 OnlyReads old new = new ≡ with_reads old new
@@ -44,3 +49,8 @@ OnlyReads old new = new ≡ with_reads old new
 -- pages were at most read, and edits staged
 abbrev pub OnlyStages : PagesView → PagesView → Type 0
 OnlyStages old new = new ≡ record (with_reads old new) { pages = new.pages; changed = new.changed; in_memory = new.in_memory }
+
+-- a read is counted where page n is in use and isn't in memory, as each page in use where no edit was staged
+pub record CountsRead (n : ℕ) (old new : PagesView) : Type 0 where
+  pub reads : new.reads ≡ counted old.reads (is_read old n)
+  pub unstaged : old.changed ≡ false → IsSome (at old.pages n) → new.reads ≡ counted old.reads true

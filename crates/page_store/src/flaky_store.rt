@@ -6,7 +6,7 @@ ghost use Rattle.page_store.specs.Growth.{GrowsTo};
 ghost use Rattle.page_store.specs.StoreCalls.{LeavesStore, ChangesStore};
 ghost use Rattle.page_store.specs.declared.step.Step.{Step};
 ghost use Rattle.page_store.specs.StoreFaults.{is_failed};
-ghost use Rattle.page_store.specs.FlakyStored.{read_fails, write_fails, with_read, with_write, reads_of, writes_of, failures_of};
+ghost use Rattle.page_store.specs.FlakyStored.{read_fails, write_fails, PassesWrite, with_read, with_write, reads_of, writes_of, failures_of};
 
 use crate::store::Store;
 use crate::store_fault::{Shape, StoreFault};
@@ -176,16 +176,7 @@ impl<S: Store> Store for FlakyStore<S> {
         ensures same_tail { S.tail self.new.inner ≡ S.tail self.old.inner }
         ensures changes { ChangesStore ⟦<FlakyStore<S> as StoreState>⟧ (Step.Write n from.now)
             self.old result self.new }
-        ensures fails { IsTrue (write_fails self.old)
-            → (result ≡ Err StoreFault.Failed) × (self.new.inner ≡ self.old.inner) }
-        ensures passes { write_fails self.old ≡ false → S.failures self.new.inner
-            ≡ counted (S.failures self.old.inner) (is_failed result) }
-        ensures reads_below { S.reads self.new.inner ≡ S.reads self.old.inner }
-        ensures shapes_below { S.shapes self.new.inner ≡ S.shapes self.old.inner }
-        ensures writes_below { write_fails self.old ≡ false
-            → S.writes self.new.inner ≡ counted (S.writes self.old.inner) true }
-        ensures rest { self.new
-            ≡ record (with_write self.old (write_fails self.old)) { inner = self.new.inner } }
+        ensures passes { PassesWrite S.StoreState self.old result self.new }
     {
         if self.write_fails_now() {
             return Err(StoreFault::Failed);
@@ -205,16 +196,7 @@ impl<S: Store> Store for FlakyStore<S> {
             (GrowsTo n (S.pages self.old.inner) (S.pages self.new.inner)) }
         ensures changes { ChangesStore ⟦<FlakyStore<S> as StoreState>⟧ (Step.SetPages n)
             self.old result self.new }
-        ensures fails { IsTrue (write_fails self.old)
-            → (result ≡ Err StoreFault.Failed) × (self.new.inner ≡ self.old.inner) }
-        ensures passes { write_fails self.old ≡ false → S.failures self.new.inner
-            ≡ counted (S.failures self.old.inner) (is_failed result) }
-        ensures reads_below { S.reads self.new.inner ≡ S.reads self.old.inner }
-        ensures shapes_below { S.shapes self.new.inner ≡ S.shapes self.old.inner }
-        ensures writes_below { write_fails self.old ≡ false
-            → S.writes self.new.inner ≡ counted (S.writes self.old.inner) true }
-        ensures rest { self.new
-            ≡ record (with_write self.old (write_fails self.old)) { inner = self.new.inner } }
+        ensures passes { PassesWrite S.StoreState self.old result self.new }
     {
         if self.write_fails_now() {
             return Err(StoreFault::Failed);
@@ -229,16 +211,7 @@ impl<S: Store> Store for FlakyStore<S> {
         ensures same_tail { S.tail self.new.inner ≡ S.tail self.old.inner }
         ensures changes { ChangesStore ⟦<FlakyStore<S> as StoreState>⟧ Step.Sync
             self.old result self.new }
-        ensures fails { IsTrue (write_fails self.old)
-            → (result ≡ Err StoreFault.Failed) × (self.new.inner ≡ self.old.inner) }
-        ensures passes { write_fails self.old ≡ false → S.failures self.new.inner
-            ≡ counted (S.failures self.old.inner) (is_failed result) }
-        ensures reads_below { S.reads self.new.inner ≡ S.reads self.old.inner }
-        ensures shapes_below { S.shapes self.new.inner ≡ S.shapes self.old.inner }
-        ensures writes_below { write_fails self.old ≡ false
-            → S.writes self.new.inner ≡ counted (S.writes self.old.inner) true }
-        ensures rest { self.new
-            ≡ record (with_write self.old (write_fails self.old)) { inner = self.new.inner } }
+        ensures passes { PassesWrite S.StoreState self.old result self.new }
     {
         if self.write_fails_now() {
             return Err(StoreFault::Failed);

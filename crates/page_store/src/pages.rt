@@ -3,18 +3,14 @@ ghost use Rattle.std.specs.Ordering.{nat_cmp};
 ghost use Rattle.std.specs.BTreeSet.{contains};
 ghost use Rattle.rec_types.specs.Table.{counted};
 ghost use Rattle.page_store.specs.PageMap.{at, after, is_written, is_freed};
-ghost use Rattle.page_store.specs.Guards.{AllowsAll};
 ghost use Rattle.page_store.specs.ChangedPage.{MayChangeAt, ChangesPage};
-ghost use Rattle.page_store.specs.Journal.{noted, NotesFront, writing_back};
-ghost use Rattle.page_store.specs.PagesView.{OnlyReads, is_in_memory, is_read, memory_pages};
-ghost use Rattle.page_store.specs.Calls.{counted_times, CountedUpTo, how_many};
+ghost use Rattle.page_store.specs.PagesView.{CountsRead, OnlyReads, is_in_memory, with_writes};
+ghost use Rattle.page_store.specs.StoreUnder.{IsStoreOf};
 ghost use Rattle.page_store.specs.FreeNumbers.{free_numbers, candidate, count_after, greatest_page_count};
 ghost use Rattle.page_store.specs.CanStage.{CanStage};
 ghost use Rattle.page_store.specs.FetchFaults.{is_device};
-ghost use Rattle.page_store.specs.Blank.{blanks};
-ghost use Rattle.page_store.specs.Growth.{GrowsTo};
-ghost use Rattle.page_store.specs.WriteFaults.{by_device};
-ghost use Rattle.page_store.specs.WritingBack.{AreStored, KeepsOthers, Stopped};
+ghost use Rattle.page_store.specs.WritingBack.{KeepsOthers, Stopped};
+ghost use Rattle.page_store.specs.WrittenBack.{CarriesOut, GrowsAlone, IsWrittenBack, KeepsPages, calls_back, steps_back};
 ghost use Rattle.btree_node.specs.Spelling.{IsSpelt};
 
 mod commits;
@@ -168,14 +164,12 @@ impl<S: Store> Pages<S> {
         ensures out_of_range { (result ≡ Err FetchFault.OutOfRange) ↔ (at self.old.pages n ≡ None) }
         ensures device { self.new.failures ≡ counted self.old.failures (is_device result) }
         ensures unchanged { OnlyReads self.old self.new }
-        ensures nothing_there { at self.old.pages n ≡ None → self.new ≡ self.old }
-        ensures nothing_read { at self.old.pages n ≡ None → to.new ≡ to.old }
+        ensures nothing { at self.old.pages n ≡ None
+            → (self.new ≡ self.old) × (to.new ≡ to.old) }
         ensures from_memory { is_in_memory self.old n ≡ true
             → (self.new ≡ self.old) × IsOk result × (at self.old.pages n ≡ Some to.new) }
         ensures some { OnOk result (0 < n) }
-        ensures reads { self.new.reads ≡ counted self.old.reads (is_read self.old n) }
-        ensures from_store { self.old.changed ≡ false → IsSome (at self.old.pages n)
-            → self.new.reads ≡ counted self.old.reads true }
+        ensures reads { CountsRead n self.old self.new }
     {
         if !is_in_use(self.count, &self.free, n) {
             return Err(FetchFault::OutOfRange);
@@ -333,60 +327,21 @@ impl<S: Store> Pages<S> {
         writing: &[u8; PAGE_WIDTH],
         clean: &[u8; PAGE_WIDTH],
     ) -> Result<(), WriteFault>
-        ensures count { OnOk result (length self.new.stored ≡ length self.old.pages) }
-        ensures tail { OnOk result (self.new.tail ≡ 0) }
-        ensures header { IsTrue self.old.steady
-            → OnOk result (slice_get self.new.stored 0 ≡ Some clean.now) }
-        ensures stored { IsTrue self.old.steady
-            → OnOk result (AreStored (at self.old.pages) self.new.stored) }
-        ensures unwritten { OnOk result ((n : ℕ) → n ≢ 0 → at self.old.pages n ≡ None
-            → slice_get self.new.stored n ≡ slice_get
-            (self.old.stored ++ blanks (length self.old.pages - length self.old.stored)) n) }
-        ensures idle { OnOk result (self.new.changed ≡ false) }
-        ensures in_memory { OnOk result ((n : ℕ) → is_in_memory self.new n ≡ false) }
-        ensures writes { OnOk result (self.new.writes ≡ counted_times self.old.writes
-            (6 + how_many (is_in_memory self.old) (length self.old.pages))) }
-        ensures writes_err { OnErr result (CountedUpTo
-            (6 + how_many (is_in_memory self.old) (length self.old.pages))
-            self.old.writes self.new.writes) }
-        ensures pages { IsTrue self.old.steady → self.new.pages ≡ self.old.pages }
-        ensures same_count { length self.new.pages ≡ length self.old.pages }
-        ensures same_free { free_numbers self.new.pages ≡ free_numbers self.old.pages }
-        ensures same_use { (n : ℕ) → is_some (at self.new.pages n) ≡ is_some (at self.old.pages n) }
-        ensures rest { self.new ≡ record self.old {
+        ensures written { OnOk result (IsWrittenBack clean.now self.old self.new) }
+        ensures keeps { KeepsPages self.old self.new }
+        ensures rest { self.new ≡ record (with_writes self.old self.new) {
           pages = self.new.pages;
           changed = self.new.changed;
           in_memory = self.new.in_memory;
-          stored = self.new.stored;
-          tail = self.new.tail;
-          writes = self.new.writes;
-          failures = self.new.failures;
-          journal = self.new.journal;
-          guard = self.new.guard;
         } }
-        ensures err { OnErr result (self.new ≡ record self.old {
-          stored = self.new.stored;
-          tail = self.new.tail;
-          writes = self.new.writes;
-          failures = self.new.failures;
-          journal = self.new.journal;
-          guard = self.new.guard;
-        }) }
+        ensures err { OnErr result (self.new ≡ with_writes self.old self.new) }
         ensures others { KeepsOthers (at self.old.pages) (length self.old.pages)
             self.old.stored self.new.stored }
         ensures stopped { IsTrue self.old.steady → OnErr result
             (Stopped (at self.old.pages) writing.now self.old.stored self.new.stored) }
-        ensures memory { result ≡ Err WriteFault.Memory
-            → GrowsTo (length self.old.pages) self.old.stored self.new.stored }
-        ensures memory_unnoted { result ≡ Err WriteFault.Memory
-            → self.new.journal ≡ self.old.journal }
-        ensures device { self.new.failures ≡ counted self.old.failures (by_device result) }
-        ensures journal { OnOk result (self.new.journal ≡ noted self.old.journal (writing_back
-            (memory_pages self.old) (length self.old.pages) writing.now clean.now)) }
-        ensures allowed { AllowsAll self.old.guard (writing_back (memory_pages self.old)
-            (length self.old.pages) writing.now clean.now) → self.new.guard ≡ self.old.guard }
-        ensures journal_err { OnErr result (NotesFront (writing_back (memory_pages self.old)
-            (length self.old.pages) writing.now clean.now) self.old.journal self.new.journal) }
+        ensures memory { result ≡ Err WriteFault.Memory → GrowsAlone self.old self.new }
+        ensures calls { CarriesOut (calls_back self.old)
+            (steps_back self.old writing.now clean.now) self.old result self.new }
     {
         self.kept = KeptPages::new(self.alloc);
         let written = write_out(
@@ -408,16 +363,7 @@ impl<S: Store> Pages<S> {
     /// The store, with its pages as they are: what was staged since the last writing back is not in
     /// it.
     pub fn into_store(self) -> S
-        ensures pages { S.pages result ≡ self.stored }
-        ensures tail { S.tail result ≡ self.tail }
-        ensures steady { S.steady result ≡ self.steady }
-        ensures opening { S.opening result ≡ self.opening }
-        ensures reads { S.reads result ≡ self.reads }
-        ensures shapes { S.shapes result ≡ self.shapes }
-        ensures writes { S.writes result ≡ self.writes }
-        ensures failures { S.failures result ≡ self.failures }
-        ensures journal { S.journal result ≡ self.journal }
-        ensures guard { S.guard result ≡ self.guard }
+        ensures { IsStoreOf S.StoreState self result }
     {
         let Pages { store, .. } = self;
         store

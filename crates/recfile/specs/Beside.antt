@@ -51,6 +51,11 @@ LeavesClosed opening order records c = Belongs c × HoldsRecords order records (
 abbrev pub LeavesEitherBeside : Opening → ℕ → Contents → Files → Type 0
 LeavesEitherBeside opening order records c = LeavesOpening opening c ⊎ LeavesClosed opening order records c
 
+-- the file holds these records, in a tree of this order, and no more than a file may have, and a crash now leaves the whole log beside it
+pub record HoldsWhole {D : Type 0} (g : Ghosts D) (opening : Opening) (order : ℕ) (records : Contents) (disk : D) : Type 0 where
+  pub holds : HoldsRecords order records (g.seen disk).main
+  pub whole : (c : Files) → g.may_leave disk c → FindsWhole opening.logged opening.log opening.commits c
+
 -- the same, where the log was then taken away
 abbrev pub LeavesEnded : Opening → ℕ → Contents → Files → Type 0
 LeavesEnded opening order records c = LeavesEitherBeside opening order records c ⊎ (Belongs c × HoldsRecords order records (recovered c) × (c.commits.log ≡ None))

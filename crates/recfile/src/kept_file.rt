@@ -7,11 +7,10 @@ ghost use Rattle.btree_insert.specs.declared.tree.Tree.{Tree as TreeValue};
 ghost use Rattle.btree_delete.specs.TableView.{IsClosed, table_contents};
 ghost use Rattle.page_journal.specs.Files.{Belongs, Files, recovered};
 ghost use Rattle.page_journal.specs.Crash.{IsAtRest};
-ghost use Rattle.recfile.specs.Beside.{FindsEach, FindsWhole, LeavesEitherBeside, LeavesOpening};
+ghost use Rattle.recfile.specs.Beside.{FindsEach, HoldsWhole, LeavesEitherBeside, LeavesOpening};
 ghost use Rattle.recfile.specs.Dumped.{CanBeOpened, IsFirstOrOutside, IsOutsideFile};
 ghost use Rattle.recfile.specs.FileFaults.{answer_of_store, by_device, is_device, is_device_answer};
 ghost use Rattle.recfile.specs.Kept.{CountsClosing, RunsOn, is_sealed, refused_calls, opening_file, LeavesAs, LeavesOld, LeavesEither, IsKeptWith, ClosesSafely, IsOutsideDisk, IsUnopened};
-ghost use Rattle.recfile.specs.LogOver.{HoldsRecords};
 ghost use Rattle.recfile.specs.Statuses.{exit_status_of};
 ghost use Rattle.recfile.specs.WholeSession.{EndsFile, IsUncounted, RunsAny, opened_file};
 
@@ -78,11 +77,8 @@ pub(crate) fn close_table<D: Disk + Drop>(
         result.0 }
     ensures commits { IsTrue table.pages.steady → (c : Files) → D.left_since result.0 0 c
         → LeavesEitherBeside table.pages.opening table.tree.order (table_contents table) c }
-    ensures holds { IsTrue table.pages.steady → OnOk result.1
-        (HoldsRecords table.tree.order (table_contents table) (D.seen result.0).main) }
-    ensures whole { IsTrue table.pages.steady → OnOk result.1 ((c : Files)
-        → D.may_leave result.0 c → FindsWhole table.pages.opening.logged table.pages.opening.log
-        table.pages.opening.commits c) }
+    ensures whole { IsTrue table.pages.steady → OnOk result.1 (HoldsWhole D.DiskState
+        table.pages.opening table.tree.order (table_contents table) result.0) }
     ensures lasts { IsTrue table.pages.steady → (c : Files) → D.may_leave result.0 c
         → FindsEach table.pages.opening.logged table.pages.opening.log table.pages.opening.commits
         table.pages.opening.doubt c }

@@ -3,7 +3,7 @@ ghost use Rattle.std.specs.BTreeSet.{contains};
 ghost use Rattle.std.specs.Ordering.{nat_cmp};
 ghost use Rattle.rec_types.specs.Table.{counted};
 ghost use Rattle.page_store.specs.PageMap.{at, is_freed};
-ghost use Rattle.page_store.specs.StoreCalls.{StaysStore};
+ghost use Rattle.page_store.specs.StoreUnder.{IsStoreOf, LiesOver, OnlyAsks};
 ghost use Rattle.btree_node.specs.Lists.{Element};
 ghost use Rattle.btree_node.specs.declared.header.Header.{Header as HeaderValue};
 ghost use Rattle.btree_node.specs.Layout.{first_version, layout_of, IsOrder};
@@ -99,10 +99,8 @@ fn check_file<S: Store>(store: &mut S) -> Result<Header, OpenFault>
     ensures fault { IsTrue (S.steady store.old) → (limit : ℕ) → IfErr result
         (IsFirst (S.pages store.old) (S.tail store.old) limit) }
     ensures no_memory { IfErr result (λ fault. fault ≢ OpenFault.Memory) }
-    ensures stays { StaysStore S.StoreState store.old store.new }
+    ensures asks { OnlyAsks S.StoreState true (is_device result) store.old store.new }
     ensures reads { IsOk result → S.reads store.new ≡ counted (S.reads store.old) true }
-    ensures shapes { S.shapes store.new ≡ counted (S.shapes store.old) true }
-    ensures failures { S.failures store.new ≡ counted (S.failures store.old) (is_device result) }
 {
     let pages = check_length(store)?;
     check_header(store, pages)
@@ -161,11 +159,7 @@ fn without_free<S: Store>(
     ensures changed { IfOk result (λ new. new.changed ≡ (version == first_version)) }
     ensures header { at pages.pages 0 ≡ None }
     ensures memory { IfErr result (λ stop. stop.fault ≡ OpenFault.Memory) }
-    ensures stays { IfErr result (λ stop. (S.pages stop.store ≡ pages.stored)
-        × (S.tail stop.store ≡ pages.tail) × (S.steady stop.store ≡ pages.steady)
-        × (S.writes stop.store ≡ pages.writes) × (S.failures stop.store ≡ pages.failures)
-        × (S.journal stop.store ≡ pages.journal) × (S.shapes stop.store ≡ pages.shapes)
-        × (S.opening stop.store ≡ pages.opening) × (S.guard stop.store ≡ pages.guard)) }
+    ensures stays { IfErr result (λ stop. IsStoreOf S.StoreState pages stop.store) }
 {
     let mut pages = pages;
     if version != FIRST_VERSION {
@@ -203,16 +197,10 @@ pub(crate) fn open_file<S: Store>(
     ensures small { IfOk result (λ r. IsOrder r.1.order × (r.1.height ≤ greatest_height)
         × (r.1.used ≤ greatest_size) × (r.1.count ≤ limits.records)) }
     ensures spelt { IfOk result (λ r. AreSpeltIn r.1.order r.0) }
-    ensures stored { IfOk result (λ r. (r.0.stored ≡ S.pages store) × (r.0.tail ≡ S.tail store)
-        × (r.0.steady ≡ S.steady store) × (r.0.writes ≡ S.writes store)
-        × (r.0.failures ≡ S.failures store) × (r.0.journal ≡ S.journal store)
-        × (r.0.opening ≡ S.opening store) × (r.0.guard ≡ S.guard store)) }
+    ensures over { IfOk result (λ r. LiesOver S.StoreState store r.0) }
     ensures no_tail { IfOk result (λ r. r.0.tail ≡ 0) }
-    ensures shapes { MatchResult result (λ r. r.0.shapes ≡ counted (S.shapes store) true)
-        (λ stop. S.shapes stop.store ≡ counted (S.shapes store) true) }
-    ensures stays { IfErr result (λ stop. StaysStore S.StoreState store stop.store) }
-    ensures failures { IfErr result (λ stop. S.failures stop.store
-        ≡ counted (S.failures store) (is_device_fault stop.fault)) }
+    ensures back { IfErr result (λ stop. OnlyAsks S.StoreState true (is_device_fault stop.fault)
+        store stop.store) }
 {
     let mut store = store;
     let header = match check_file(&mut store) {

@@ -1,27 +1,27 @@
-ghost use Rattle.std.specs.Prelude.{◌≡◌, ◌≢◌, ◌⊎◌, ℕ, ◌<◌, ◌≤◌, List, length, true, false, IsTrue, Ok, Err, IsOk, ◌+◌, ◌-◌, ◌*◌, Some, None, IsSome, is_none, OnErr, IfOk, IfErr, OnOk, MatchResult};
+ghost use Rattle.std.specs.Prelude.{◌≡◌, ◌≢◌, ◌⊎◌, ℕ, ◌<◌, ◌≤◌, List, length, true, false, IsTrue, Ok, Err, IsOk, ◌+◌, ◌-◌, None, IsSome, is_none, OnErr, IfOk, IfErr, OnOk, MatchResult};
 ghost use Rattle.std.specs.FinMap as maps;
 ghost use Rattle.rec_types.specs.Contents.{Contents, set_to};
 ghost use Rattle.rec_types.specs.Answered.{Answered};
-ghost use Rattle.rec_types.specs.Calls.{no_calls, with_get, with_set, with_list};
+ghost use Rattle.rec_types.specs.Calls.{with_get, with_set, with_list};
 ghost use Rattle.rec_types.specs.LimitBounds.{most_records};
-ghost use Rattle.rec_types.specs.Table.{NeverFull, no_damage, counted, is_device as is_device_answer};
-ghost use Rattle.page_store.specs.PageMap.{at};
+ghost use Rattle.rec_types.specs.Table.{NeverFull, counted, is_device as is_device_answer};
 ghost use Rattle.page_store.specs.FreeNumbers.{free_numbers};
 ghost use Rattle.btree_node.specs.Lists.{Element};
 ghost use Rattle.btree_node.specs.declared.header.Header.{Header as HeaderValue};
 ghost use Rattle.btree_insert.specs.declared.tree.Tree.{Tree as TreeValue};
-ghost use Rattle.btree_delete.specs.CleanFile.{IsCleanFile, IsFirst, Opens, IsOutside, is_device_fault, is_close_device_fault};
-ghost use Rattle.page_store.specs.Fronts.{tried};
+ghost use Rattle.btree_delete.specs.CleanFile.{IsCleanFile, IsFirst, Opens, IsOutside, is_device_fault};
 ghost use Rattle.page_store.specs.Guards.{AllowsAll};
-ghost use Rattle.page_store.specs.Journal.{noted, NotesFront, carried};
-ghost use Rattle.page_store.specs.PagesView.{OnlyReads, OnlyStages, with_reads};
+ghost use Rattle.page_store.specs.Journal.{noted, NotesFront};
+ghost use Rattle.page_store.specs.PagesView.{with_reads};
 ghost use Rattle.page_store.specs.StoreCalls.{StaysStore};
+ghost use Rattle.page_store.specs.StoreUnder.{IsStoreOf, LiesOver, OnlyAsks};
 ghost use Rattle.btree_node.specs.Layout.{second_version, greatest_order};
 ghost use Rattle.btree_insert.specs.Sizes.{greatest_height};
 ghost use Rattle.btree_insert.specs.Told.{TellsAll, TellsSome};
-ghost use Rattle.btree_delete.specs.Closing.{closing, IsNewOrFile, IsEither};
+ghost use Rattle.btree_delete.specs.Closing.{closing, IsHandedOver, IsUnclosed, StopsAnywhere};
 ghost use Rattle.btree_delete.specs.Origins.{Origin, origin_of};
-ghost use Rattle.btree_delete.specs.TableView.{TableView, HoldsTree, IsClosed, table_contents};
+ghost use Rattle.btree_delete.specs.TableView.{TableView, HoldsTree, IsClosed, IsUncalled, table_contents};
+ghost use Rattle.btree_delete.specs.Setting.{ChangesTree, ReadsByLevel};
 ghost use Rattle.btree_delete.specs.Created.{IsEmpty, IsCreated, IsCreateFault, asks_shape, is_create_device, is_create_device_fault};
 
 mod commits;
@@ -120,25 +120,14 @@ impl<S: Store> TreeTable<S> {
         limits: Limits,
     ) -> Result<TreeTable<S>, CreateStop<S>>
         ensures made { IfOk result (λ t. IsCreated (S.pages store) (S.tail store) k t) }
-        ensures store { IfOk result (λ t. (t.pages.steady ≡ S.steady store)
-            × (t.pages.reads ≡ S.reads store) × (t.pages.writes ≡ S.writes store)
-            × (t.pages.failures ≡ S.failures store)) }
-        ensures journal { IfOk result (λ t. t.pages.journal ≡ S.journal store) }
-        ensures opening { IfOk result (λ t. t.pages.opening ≡ S.opening store) }
-        ensures guard { IfOk result (λ t. t.pages.guard ≡ S.guard store) }
-        ensures limit { IfOk result (λ t. t.limit ≡ limits.records) }
-        ensures empty { IfOk result (λ t. table_contents t ≡ maps.empty) }
-        ensures in_class { IfOk result (λ t. IsTrue t.pages.steady → HoldsTree t.pages t.tree) }
-        ensures no_faults { IfOk result (λ t. (t.refusals ≡ 0) × (t.damages ≡ no_damage)) }
-        ensures no_calls { IfOk result (λ t. t.calls ≡ no_calls) }
+        ensures over { IfOk result (λ t. LiesOver S.StoreState store t.pages) }
+        ensures uncalled { IfOk result (λ t. IsUncalled limits.records t) }
         ensures fault { IfErr result
             (λ stop. IsCreateFault (S.pages store) (S.tail store) k stop.fault) }
-        ensures stays { IfErr result (λ stop. StaysStore S.StoreState store stop.store) }
-        ensures reads { IfErr result (λ stop. S.reads stop.store ≡ S.reads store) }
-        ensures shapes { MatchResult result (λ t. t.pages.shapes ≡ counted (S.shapes store) true)
-            (λ stop. S.shapes stop.store ≡ counted (S.shapes store) (asks_shape stop.fault)) }
-        ensures failures { IfErr result (λ stop. S.failures stop.store
-            ≡ counted (S.failures store) (is_create_device_fault stop.fault)) }
+        ensures back { IfErr result (λ stop. OnlyAsks S.StoreState (asks_shape stop.fault)
+            (is_create_device_fault stop.fault) store stop.store) }
+        ensures reads { MatchResult result (λ t. t.pages.reads ≡ S.reads store)
+            (λ stop. S.reads stop.store ≡ S.reads store) }
     {
         let mut store = store;
         if !(1..=GREATEST_ORDER).contains(&k) {
@@ -189,21 +178,11 @@ impl<S: Store> TreeTable<S> {
             (λ t. (t.tree ≡ tree) × (table_contents t ≡ contents)) (λ stop. IsOutside stop.fault) }
         ensures fault { IsTrue (S.steady store) → IfErr result
             (λ stop. IsFirst (S.pages store) (S.tail store) limits.records stop.fault) }
-        ensures limit { IfOk result (λ t. t.limit ≡ limits.records) }
-        ensures no_faults { IfOk result (λ t. (t.refusals ≡ 0) × (t.damages ≡ no_damage)) }
-        ensures no_calls { IfOk result (λ t. t.calls ≡ no_calls) }
-        ensures stored { IfOk result (λ t. (t.pages.stored ≡ S.pages store)
-            × (t.pages.tail ≡ S.tail store) × (t.pages.steady ≡ S.steady store)
-            × (t.pages.writes ≡ S.writes store) × (t.pages.failures ≡ S.failures store)) }
-        ensures journal { IfOk result (λ t. t.pages.journal ≡ S.journal store) }
-        ensures opening { IfOk result (λ t. t.pages.opening ≡ S.opening store) }
+        ensures over { IfOk result (λ t. LiesOver S.StoreState store t.pages) }
         ensures no_tail { IfOk result (λ t. t.pages.tail ≡ 0) }
-        ensures guard { IfOk result (λ t. t.pages.guard ≡ S.guard store) }
-        ensures shapes { MatchResult result (λ t. t.pages.shapes ≡ counted (S.shapes store) true)
-            (λ stop. S.shapes stop.store ≡ counted (S.shapes store) true) }
-        ensures stays { IfErr result (λ stop. StaysStore S.StoreState store stop.store) }
-        ensures failures { IfErr result (λ stop. S.failures stop.store
-            ≡ counted (S.failures store) (is_device_fault stop.fault)) }
+        ensures uncalled { IfOk result (λ t. IsUncalled limits.records t) }
+        ensures back { IfErr result (λ stop. OnlyAsks S.StoreState true
+            (is_device_fault stop.fault) store stop.store) }
     {
         let limit = limits.records();
         let (pages, tree) = open_file(alloc, store, limits)?;
@@ -225,41 +204,17 @@ impl<S: Store> TreeTable<S> {
             → IfOk result (λ store. IsClosed second_version (S.pages store) (S.tail store) self.tree
             (table_contents self)) }
         ensures count { IsTrue self.pages.steady → OnOk result (self.tree.count ≤ most_records) }
-        ensures steady { IfOk result (λ store. S.steady store ≡ self.pages.steady) }
-        ensures opening { IfOk result (λ store. S.opening store ≡ self.pages.opening) }
+        ensures store { IfOk result (λ store. IsHandedOver S.StoreState self.pages store) }
+        ensures idle { self.pages.changed ≡ false
+            → IfOk result (λ store. IsStoreOf S.StoreState self.pages store) × IsOk result }
         ensures allowed { AllowsAll self.pages.guard (closing self) → MatchResult result
             (λ store. S.guard store ≡ self.pages.guard)
             (λ stop. stop.table.pages.guard ≡ self.pages.guard) }
-        ensures idle { self.pages.changed ≡ false → IfOk result
-            (λ store. (S.pages store ≡ self.pages.stored) × (S.tail store ≡ self.pages.tail)
-            × (S.reads store ≡ self.pages.reads) × (S.writes store ≡ self.pages.writes)
-            × (S.failures store ≡ self.pages.failures)) }
-        ensures idle_ok { self.pages.changed ≡ false → IsOk result }
-        ensures reads { IfOk result (λ store. S.reads store ≡ self.pages.reads) }
-        ensures shapes { IfOk result (λ store. S.shapes store ≡ self.pages.shapes) }
-        ensures failures { IfOk result (λ store. S.failures store ≡ self.pages.failures) }
         ensures journal { MatchResult result
             (λ store. S.journal store ≡ noted self.pages.journal (closing self))
             (λ stop. NotesFront (closing self) self.pages.journal stop.table.pages.journal) }
-        ensures fronts { (old : List (List ℕ)) (ks : List ℕ) → IsNewOrFile old
-            → IsEither old (carried old (closing self)) (carried old (tried ks (closing self))) }
-        ensures again { (old : List (List ℕ)) (ks : List ℕ)
-            → carried (carried old (tried ks (closing self))) (closing self)
-            ≡ carried old (closing self) }
-        ensures device { IfErr result (λ stop. stop.table.pages.failures
-            ≡ counted self.pages.failures (is_close_device_fault stop.fault)) }
-        ensures memory { IfErr result (λ stop. stop.fault ≡ WriteFault.Memory
-            → stop.table.pages.journal ≡ self.pages.journal) }
-        ensures table { IfErr result (λ stop. stop.table ≡ record self {
-          pages = record self.pages {
-            stored = stop.table.pages.stored;
-            tail = stop.table.pages.tail;
-            writes = stop.table.pages.writes;
-            failures = stop.table.pages.failures;
-            journal = stop.table.pages.journal;
-            guard = stop.table.pages.guard;
-          };
-        }) }
+        ensures stops { StopsAnywhere (closing self) }
+        ensures fault { IfErr result (λ stop. IsUnclosed self stop.fault stop.table) }
     {
         let TreeTable {
             mut pages,
@@ -298,16 +253,7 @@ impl<S: Store> TreeTable<S> {
     /// The store, with its pages as they are: what was changed since they were opened isn't in it. It calls nothing of
     /// the store, and takes no memory.
     pub fn abandon(self) -> S
-        ensures pages { S.pages result ≡ self.pages.stored }
-        ensures tail { S.tail result ≡ self.pages.tail }
-        ensures steady { S.steady result ≡ self.pages.steady }
-        ensures opening { S.opening result ≡ self.pages.opening }
-        ensures reads { S.reads result ≡ self.pages.reads }
-        ensures shapes { S.shapes result ≡ self.pages.shapes }
-        ensures writes { S.writes result ≡ self.pages.writes }
-        ensures failures { S.failures result ≡ self.pages.failures }
-        ensures journal { S.journal result ≡ self.pages.journal }
-        ensures guard { S.guard result ≡ self.pages.guard }
+        ensures { IsStoreOf S.StoreState self.pages result }
     {
         let TreeTable { pages, .. } = self;
         pages.into_store()
@@ -461,22 +407,8 @@ impl<S: Store> Table for TreeTable<S> {
             → is_device_answer result ≡ false → result ≡ Ok None }
         ensures answered { Answered ⟦<TreeTable<S> as TableState>⟧ self.old result self.new }
         ensures calls { self.new.calls ≡ with_set self.old.calls (is_none to) result }
-        ensures in_class { IsTrue self.old.pages.steady → HoldsTree self.new.pages self.new.tree }
-        ensures order { self.new.tree.order ≡ self.old.tree.order }
-        ensures staged { IsOk result → (IsSome to ⊎ (result ≢ Ok None))
-            → self.new.pages.changed ≡ true }
-        ensures nothing_staged { to ≡ None → result ≡ Ok None
-            → (self.new.tree ≡ self.old.tree)
-            × (self.new.pages.pages ≡ self.old.pages.pages)
-            × (self.new.pages.changed ≡ self.old.pages.changed) }
-        ensures refused { OnErr result ((self.new.tree ≡ self.old.tree)
-            × OnlyReads self.old.pages self.new.pages) }
-        ensures store { OnlyStages self.old.pages self.new.pages }
-        ensures one_descent { IsSome to → self.old.tree.count < self.old.limit
-            → self.new.pages.reads ≤ self.old.pages.reads + self.old.tree.height }
-        ensures taking_reads { to ≡ None → self.new.pages.reads
-            ≤ self.old.pages.reads + (2 * self.old.tree.height - 1) }
-        ensures reads { self.new.pages.reads ≤ self.old.pages.reads + 2 * self.old.tree.height }
+        ensures tree { ChangesTree to self.old result self.new }
+        ensures reads { ReadsByLevel to self.old self.new }
     {
         let takes_out = to.is_none();
         let changed = change(self.alloc, &mut self.pages, &self.tree, self.limit, key, to);

@@ -1,4 +1,4 @@
-use Rattle.std.proofs.Common.{◌≡◌, ◌∙◌, ap, sym, subst, ℕ, List, Option, Some, IsTrue}
+use Rattle.std.proofs.Common.{rules, ◌≡◌, ◌∙◌, ap, sym, subst, ℕ, List, Option, Some, IsTrue}
 use Rattle.page_journal.specs.Files.{PageFile, Kept, Files, IsOf, restored, recovered, recovered_by}
 use Rattle.page_journal.specs.Steps.{side_shape}
 use Rattle.page_journal.specs.Crash.{LeavesOnly, StandsAs, StandsFor, IsSettled, IsAtRest, IsSealed}
@@ -150,3 +150,45 @@ returns-clause-logs g c =
     let sided = logs_stays d old old c.side.new.self begun c.side.ensures.does.0 in
     let told = logs_stays d old c.side.new.self c.belongs.new.disk sided c.belongs.ensures.stays in
     logs_then d old c.belongs.new.disk c.put_back.new.disk told c.put_back.ensures.logs
+
+pub returns-in_err-side-clause-leaves : goal.returns-in_err-side-clause-leaves
+returns-in_err-side-clause-leaves g c = record {
+  steady = search rules;
+  began = search rules;
+  failures = search rules;
+}
+
+pub returns-in_default-clause-leaves : goal.returns-in_default-clause-leaves
+returns-in_default-clause-leaves g c = record {
+  steady = search rules;
+  began = search rules;
+  failures = search rules;
+}
+
+pub returns-in_err-belongs-clause-leaves : goal.returns-in_err-belongs-clause-leaves
+returns-in_err-belongs-clause-leaves g c = record {
+  steady = search rules;
+  began = search rules;
+  failures = search rules;
+}
+
+pub returns-then-not-branch-clause-leaves : goal.returns-then-not-branch-clause-leaves
+returns-then-not-branch-clause-leaves g c = record {
+  steady = search rules;
+  began = search rules;
+  failures = search rules;
+}
+
+pub returns-in_err-put_back-clause-leaves : goal.returns-in_err-put_back-clause-leaves
+returns-in_err-put_back-clause-leaves g c = record {
+  steady = search rules;
+  began = search rules;
+  failures = search rules;
+}
+
+pub returns-clause-leaves : goal.returns-clause-leaves
+returns-clause-leaves g c = record {
+  steady = search rules;
+  began = search rules;
+  failures = search rules;
+}

@@ -36,7 +36,7 @@ returns-in-Ok-begin_commits-clause-begun g c steady =
     let d = g.D.DiskState in
     let stays = c.head_of.ensures.stays in
     let new = c.in-Ok-begin_commits.store in
-    let file : recovered (d.began new.disk) ≡ recovered (d.began c.args.store.disk) = ap recovered c.in-Ok-begin_commits.ensures.began ∙ ap opening_file stays.opening in
+    let file : recovered (d.began new.disk) ≡ recovered (d.began c.args.store.disk) = ap recovered c.in-Ok-begin_commits.ensures.keeps.began ∙ ap opening_file stays.opening in
     record {
       logged = search rules;
       commits = c.in-Ok-begin_commits.ensures.says (stays.steady ∙ steady) (c.in-Ok.head.items ∷ []) c.in-Ok.ensures.unit (spelt g here) ∙ ap (λ (line : List ℕ). (line ∷ []) ∷ []) (head g here steady ∙ ap head_line (sym file));

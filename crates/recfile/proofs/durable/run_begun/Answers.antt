@@ -27,11 +27,11 @@ returns-in-Ok-clause-session g c steady order contents holds =
     let table = c.in-Ok.table in
     let opened = c.in-Ok.ensures.reopened steady holds.1 contents holds.0 holds.3 holds.4 in
     let order_is : table.tree.order ≡ order = ap (λ t. t.order) opened.0 ∙ holds.2 in
-    let file_is : opening_file table.pages.opening ≡ (d.seen c.args.store.disk).main = ap (λ (o : Opening). opening_file o) c.in-Ok.ensures.opening ∙ sym (c.requires.begun steady).0 in
-    let failures_are : table.pages.failures ≡ d.failures c.args.store.disk = c.in-Ok.ensures.stored.4 ∙ ap (failures_with (d.failures c.args.store.disk)) c.requires.unrefused in
+    let file_is : opening_file table.pages.opening ≡ (d.seen c.args.store.disk).main = ap (λ (o : Opening). opening_file o) c.in-Ok.ensures.over.opening ∙ sym (c.requires.begun steady).0 in
+    let failures_are : table.pages.failures ≡ d.failures c.args.store.disk = c.in-Ok.ensures.over.failures ∙ ap (failures_with (d.failures c.args.store.disk)) c.requires.unrefused in
     let ends = λ (x : ℕ × Contents × ℕ × PageFile). EndsDurably d c.args.manner (g.R.CountedRead.left c.args.reader.now) (g.R.CountedRead.left c.run_logged.new.reader) (g.W.CountedWrite.held c.args.out.now) (g.W.CountedWrite.held c.run_logged.new.out) c.args.calls.now c.run_logged.new.calls x.0 x.1 c.args.limits x.2 ((head_line x.3 ∷ []) ∷ []) c.run_logged.result.unclosed c.run_logged.result.status c.run_logged.result.disk in
     let within = subst (λ (x : ℕ × Contents × PageFile). HoldsWithin c.args.limits.records x.0 x.1 x.2) (λ i. (sym order_is i, sym opened.1 i, sym file_is i)) holds in
-    let session = c.run_logged.ensures.session (c.in-Ok.ensures.stored.2 ∙ steady) (c.in-Ok.ensures.no_faults.0, c.in-Ok.ensures.no_faults.1, c.in-Ok.ensures.no_calls) (subst IsBegunBeside (sym c.in-Ok.ensures.opening) (c.requires.begun steady).1) within in
+    let session = c.run_logged.ensures.session (c.in-Ok.ensures.over.steady ∙ steady) (c.in-Ok.ensures.uncalled.no_refusals, c.in-Ok.ensures.uncalled.no_damages, c.in-Ok.ensures.uncalled.no_calls) (subst IsBegunBeside (sym c.in-Ok.ensures.over.opening) (c.requires.begun steady).1) within in
     subst (λ (o : Option FileFault). MatchOption o (ends (order, contents, d.failures c.args.store.disk, (d.seen c.args.store.disk).main)) IsOutsideFile) (sym c.run_logged.ensures.opened)
     (subst ends (λ i. (order_is i, opened.1 i, failures_are i, file_is i)) session)
 
@@ -46,8 +46,8 @@ returns-in-Err-clause-device g c unused =
     let new = c.in-Err.stop.store in
     let fault = c.in-Err.stop.fault in
     let kept = unused_guard old.state old.kept old.refusals unused c.requires.unrefused in
-    let guard = c.in-Err.ensures.stays.guard in
-    let counts = disk_counts old.state new.state old.kept new.kept (d.failures old.disk) old.refusals (d.failures new.disk) new.refusals (is_device_fault fault) kept guard c.in-Err.ensures.failures in
+    let guard = c.in-Err.ensures.back.stays.guard in
+    let counts = disk_counts old.state new.state old.kept new.kept (d.failures old.disk) old.refusals (d.failures new.disk) new.refusals (is_device_fault fault) kept guard c.in-Err.ensures.back.failures in
     let ended = c.end_unread.ensures.failures (unsealed new.state new.kept new.refusals (Unsealed 0) (guard ∙ kept) refl) in
     some_told c.unopened.result.unopened c.from.result (λ f. CountsClosing (d.failures old.disk) true (is_device f) (d.failures c.unopened.result.disk)) (ap (λ e. e.unopened) c.unopened.ensures) (record {
       again = ended.0;
@@ -65,4 +65,4 @@ returns-in-Ok-clause-untouched g c steady =
 
 pub returns-in-Ok-clause-stopped : goal.returns-in-Ok-clause-stopped
 returns-in-Ok-clause-stopped g c steady four =
-    subst (λ (f : PageFile). LeavesOld g.D.DiskState f c.run_logged.result.disk) (ap (λ (o : Opening). opening_file o) c.in-Ok.ensures.opening ∙ sym (c.requires.begun steady).0) (c.run_logged.ensures.stopped (c.in-Ok.ensures.stored.2 ∙ steady) four)
+    subst (λ (f : PageFile). LeavesOld g.D.DiskState f c.run_logged.result.disk) (ap (λ (o : Opening). opening_file o) c.in-Ok.ensures.over.opening ∙ sym (c.requires.begun steady).0) (c.run_logged.ensures.stopped (c.in-Ok.ensures.over.steady ∙ steady) four)

@@ -22,7 +22,7 @@ returns-in-Err-clause-device g c = λ unsealed tail.
     let again = is_recovery c.take_back-disk.result.1 in
     record {
       again = again;
-      failures = c.take_back-disk.ensures.device ∙ ap (λ n. counted n again) (same ∙ ap (λ n. counted n (is_device fault)) c.abandon-store.ensures.failures);
+      failures = c.take_back-disk.ensures.leaves.failures ∙ ap (λ n. counted n again) (same ∙ ap (λ n. counted n (is_device fault)) c.abandon-store.ensures.failures);
       once = λ never. absurd (cc never);
     }
 
@@ -43,4 +43,4 @@ returns-clause-closed g c = λ steady.
     let main = (g.D.DiskState.seen c.seal_and_fill.new.store.disk).main in
     let has = subst (λ (k : ℕ). HasRecords k (loaded c.args.records.now) main) c.order-order.ensures.value (has_loaded c.order-order.result c.args.records.now main main c.requires.records.0 (c.in_default.ensures.filled begun) refl) in
     subst (λ (r : Result (Unit {0}) FileFault). OnOk r (IsKeptWith g.D.DiskState c.args.table.tree.order (loaded c.args.records.now) c.finish-disk.result.0)) (sym c.told.ensures)
-    (ok_told c.finish-disk.result.1 _ (kept_loaded g.D.DiskState c.finish-disk.result.1 c.args.table.tree.order (loaded c.args.records.now) main c.finish-disk.result.0 c.finish-disk.ensures.same has (c.finish-disk.ensures.settled still)))
+    (ok_told c.finish-disk.result.1 _ (kept_loaded g.D.DiskState c.finish-disk.result.1 c.args.table.tree.order (loaded c.args.records.now) main c.finish-disk.result.0 c.finish-disk.ensures.keeps.same has (c.finish-disk.ensures.settled still)))

@@ -9,10 +9,9 @@ use Rattle.recfile.specs.FileFaults.{is_device, is_device_answer}
 use Rattle.recfile.specs.Kept.{IsKeptWith, opening_file, refused_calls}
 use Rattle.recfile.specs.declared.file_fault.FileFault.{FileFault}
 use Rattle.recfile.proofs.ClosingCountLemmas.{by_change, device_of_closing, device_of_sealing, device_of_store, is_stopped, moments_told, not_stopped, ok_told, seal_goes_on, seal_refuses, seal_seals, sealed_state, unrefused}
-use Rattle.page_journal.specs.Files.{Files}
 use Rattle.page_journal.specs.LoggedStores.{commits_in}
-use Rattle.recfile.specs.Beside.{FindsEach, FindsWhole, LeavesEitherBeside}
-use Rattle.recfile.proofs.KeptLemmas.{always, has_records, holds_records, kept_so, ok_wider}
+use Rattle.recfile.specs.Beside.{FindsEach, FindsWhole, HoldsWhole, LeavesEitherBeside}
+use Rattle.recfile.proofs.KeptLemmas.{has_records, holds_records, kept_so, ok_wider}
 use Rattle.recfile.proofs.SettlingLemmas.{each_found, some_found, whole_found}
 use Rattle.recfile.proofs.kept_file.close_table.Given as given
 use Rattle.recfile.proofs.kept_file.close_table.Goals as goal
@@ -21,16 +20,16 @@ use Rattle.recfile.proofs.kept_file.close_table.Goals.{In_default}
 pub returns-in-Ok-clause-any_moment : goal.returns-in-Ok-clause-any_moment
 returns-in-Ok-clause-any_moment g c steady left since =
     let sealed : IsTrue c.seal.new.self.pages.steady = ap (λ (t : TableView). t.pages.steady) c.seal.ensures.same ∙ steady in
-    let opening = c.in-Ok.ensures.opening ∙ ap (λ (t : TableView). t.pages.opening) c.seal.ensures.same in
+    let opening = c.in-Ok.ensures.store.opening ∙ ap (λ (t : TableView). t.pages.opening) c.seal.ensures.same in
     ⊎_elim (λ old. inl (subst (λ (o : Opening). StandsFor (opening_file o) left) opening old))
     (λ new. inr (new.0, has_records c.seal.new.self c.args.table (g.D.DiskState.seen c.in-Ok.store.disk).main _ (ap (λ (t : TableView). t.tree.order) c.seal.ensures.same) (ap table_contents c.seal.ensures.same) new.1 (c.in-Ok.ensures.closed sealed)))
-    (c.finish-disk.ensures.any_moment (c.in-Ok.ensures.steady ∙ sealed) left since)
+    (c.finish-disk.ensures.any_moment (c.in-Ok.ensures.store.steady ∙ sealed) left since)
 
 pub returns-in-Ok-clause-closed : goal.returns-in-Ok-clause-closed
 returns-in-Ok-clause-closed g c steady =
     let sealed : IsTrue c.seal.new.self.pages.steady = ap (λ (t : TableView). t.pages.steady) c.seal.ensures.same ∙ steady in
     subst (λ (r : Result (Unit {0}) FileFault). OnOk r (IsKeptWith g.D.DiskState c.args.table.tree.order (table_contents c.args.table) c.finish-disk.result.0)) (sym c.told.ensures)
-    (ok_told c.finish-disk.result.1 _ (kept_so g.D.DiskState c.finish-disk.result.1 c.seal.new.self c.args.table (g.D.DiskState.seen c.in-Ok.store.disk).main c.finish-disk.result.0 (ap (λ (t : TableView). t.tree.order) c.seal.ensures.same) (ap table_contents c.seal.ensures.same) c.finish-disk.ensures.same (c.in-Ok.ensures.closed sealed) (c.finish-disk.ensures.settled (c.in-Ok.ensures.steady ∙ sealed))))
+    (ok_told c.finish-disk.result.1 _ (kept_so g.D.DiskState c.finish-disk.result.1 c.seal.new.self c.args.table (g.D.DiskState.seen c.in-Ok.store.disk).main c.finish-disk.result.0 (ap (λ (t : TableView). t.tree.order) c.seal.ensures.same) (ap table_contents c.seal.ensures.same) c.finish-disk.ensures.keeps.same (c.in-Ok.ensures.closed sealed) (c.finish-disk.ensures.settled (c.in-Ok.ensures.store.steady ∙ sealed))))
 
 -- the pages that the closing writes over were kept, or none was changed; no call was refused
 module _ (g : given.Over) (c : In_default g) where
@@ -50,7 +49,7 @@ returns-in-Ok-clause-called g c unsealed tail changed =
     let new = c.seal.new.self.pages.guard in
     let guard = c.in-Ok.ensures.allowed (c.in_default.ensures.allowed 0 unsealed tail) in
     let sealed = seal_seals WriteFault _ _ c.args.table.pages.guard new unsealed (c.in_default.ensures.guard changed tail) in
-    let moments = moments_told c.finish-disk.result.1 (g.D.DiskState.moment store.disk) (g.D.DiskState.moment c.finish-disk.result.0) (c.finish-disk.ensures.moments (sealed_state store.state store.kept store.refusals new guard sealed)) in
+    let moments = moments_told c.finish-disk.result.1 (g.D.DiskState.moment store.disk) (g.D.DiskState.moment c.finish-disk.result.0) (c.finish-disk.ensures.finished.moments (sealed_state store.state store.kept store.refusals new guard sealed)) in
     subst (λ (r : Result (Unit {0}) FileFault). OnOk r (3 ≤ g.D.DiskState.moment c.finish-disk.result.0)) (sym c.told.ensures) (ok_told c.finish-disk.result.1 (3 ≤ g.D.DiskState.moment c.finish-disk.result.0) moments)
 
 pub returns-in-Ok-clause-device : goal.returns-in-Ok-clause-device
@@ -60,10 +59,10 @@ returns-in-Ok-clause-device g c unsealed tail =
     let new = c.seal.new.self.pages in
     let store = c.in-Ok.store in
     let guard = c.in-Ok.ensures.allowed (c.in_default.ensures.allowed 0 unsealed tail) in
-    let same = unrefused store.state store.kept (g.D.DiskState.failures store.disk) store.refusals new.failures new.guard guard (none g place unsealed tail) c.in-Ok.ensures.failures in
+    let same = unrefused store.state store.kept (g.D.DiskState.failures store.disk) store.refusals new.failures new.guard guard (none g place unsealed tail) c.in-Ok.ensures.store.failures in
     record {
       again = false;
-      failures = c.finish-disk.ensures.failures (not_stopped store.state store.kept store.refusals new.guard guard (going g place unsealed tail))
+      failures = c.finish-disk.ensures.finished.failures (not_stopped store.state store.kept store.refusals new.guard guard (going g place unsealed tail))
           ∙ (λ i. counted ((same ∙ c.in_default.ensures.device) i) (device_of_store c.finish-disk.result.1 i))
           ∙ ap (λ (r : Result (Unit {0}) FileFault). counted old.failures (is_device_answer r)) (sym c.told.ensures);
       once = λ ok. refl;
@@ -95,7 +94,7 @@ returns-in-Err-close-clause-device g c unsealed tail =
     record {
       again = given_back.0;
       failures = given_back.1 ∙ ap (λ n. counted n given_back.0)
-          (c.in-Err-close.ensures.device ∙ (λ i. counted (c.in_default.ensures.device i) (device_of_closing stop.fault i)) ∙ ap (λ (f : FileFault). counted old.failures (is_device f)) (sym c.from-in-Err-close.ensures));
+          (c.in-Err-close.ensures.fault.device ∙ (λ i. counted (c.in_default.ensures.device i) (device_of_closing stop.fault i)) ∙ ap (λ (f : FileFault). counted old.failures (is_device f)) (sym c.from-in-Err-close.ensures));
       once = λ never. absurd (cc never);
     }
 
@@ -104,38 +103,35 @@ returns-in-Ok-clause-commits g c steady left since =
     let d = g.D.DiskState in
     let store = c.in-Ok.store in
     let sealed : IsTrue c.seal.new.self.pages.steady = ap (λ (t : TableView). t.pages.steady) c.seal.ensures.same ∙ steady in
-    let opening = c.in-Ok.ensures.opening ∙ ap (λ (t : TableView). t.pages.opening) c.seal.ensures.same in
+    let opening = c.in-Ok.ensures.store.opening ∙ ap (λ (t : TableView). t.pages.opening) c.seal.ensures.same in
     let order = ap (λ (t : TableView). t.tree.order) c.seal.ensures.same in
     let contents = ap table_contents c.seal.ensures.same in
     subst (λ (o : Opening). LeavesEitherBeside o c.args.table.tree.order (table_contents c.args.table) left) opening
     (⊎_elim
     (λ old. inl (old.0, some_found store.log (d.began store.disk) (commits_in store.log (d.seen store.disk)) store.doubt left old.1))
     (λ new. inr (new.0.0, holds_records c.seal.new.self c.args.table (d.seen store.disk).main _ order contents new.0.1 (c.in-Ok.ensures.closed sealed) (c.in-Ok.ensures.count sealed), whole_found store.log (d.began store.disk) (commits_in store.log (d.seen store.disk)) left new.1))
-    (c.finish-disk.ensures.commits (c.in-Ok.ensures.steady ∙ sealed) left since))
-
-pub returns-in-Ok-clause-holds : goal.returns-in-Ok-clause-holds
-returns-in-Ok-clause-holds g c steady =
-    let d = g.D.DiskState in
-    let sealed : IsTrue c.seal.new.self.pages.steady = ap (λ (t : TableView). t.pages.steady) c.seal.ensures.same ∙ steady in
-    let order = ap (λ (t : TableView). t.tree.order) c.seal.ensures.same in
-    let contents = ap table_contents c.seal.ensures.same in
-    always _ _ (holds_records c.seal.new.self c.args.table (d.seen c.in-Ok.store.disk).main (d.seen c.finish-disk.result.0).main order contents c.finish-disk.ensures.same (c.in-Ok.ensures.closed sealed) (c.in-Ok.ensures.count sealed))
+    (c.finish-disk.ensures.commits (c.in-Ok.ensures.store.steady ∙ sealed) left since))
 
 pub returns-in-Ok-clause-whole : goal.returns-in-Ok-clause-whole
 returns-in-Ok-clause-whole g c steady =
     let d = g.D.DiskState in
     let store = c.in-Ok.store in
     let sealed : IsTrue c.seal.new.self.pages.steady = ap (λ (t : TableView). t.pages.steady) c.seal.ensures.same ∙ steady in
-    let opening = c.in-Ok.ensures.opening ∙ ap (λ (t : TableView). t.pages.opening) c.seal.ensures.same in
-    let o = c.args.table.pages.opening in
-    subst (λ (r : Result (Unit {0}) FileFault). OnOk r ((left : Files) → d.may_leave c.finish-disk.result.0 left → FindsWhole o.logged o.log o.commits left)) (sym c.told.ensures)
-    (ok_told c.finish-disk.result.1 _ (ok_wider c.finish-disk.result.1 _ _ (λ all left now. subst (λ (p : Opening). FindsWhole p.logged p.log p.commits left) opening (whole_found store.log (d.began store.disk) (commits_in store.log (d.seen store.disk)) left (all left now))) (c.finish-disk.ensures.all (c.in-Ok.ensures.steady ∙ sealed))))
+    let opening = c.in-Ok.ensures.store.opening ∙ ap (λ (t : TableView). t.pages.opening) c.seal.ensures.same in
+    let order = ap (λ (t : TableView). t.tree.order) c.seal.ensures.same in
+    let contents = ap table_contents c.seal.ensures.same in
+    let holds = holds_records c.seal.new.self c.args.table (d.seen store.disk).main (d.seen c.finish-disk.result.0).main order contents c.finish-disk.ensures.keeps.same (c.in-Ok.ensures.closed sealed) (c.in-Ok.ensures.count sealed) in
+    subst (λ (r : Result (Unit {0}) FileFault). OnOk r (HoldsWhole d c.args.table.pages.opening c.args.table.tree.order (table_contents c.args.table) c.finish-disk.result.0)) (sym c.told.ensures)
+    (ok_told c.finish-disk.result.1 _ (ok_wider c.finish-disk.result.1 _ _ (λ all. record {
+      holds = holds;
+      whole = λ left now. subst (λ (p : Opening). FindsWhole p.logged p.log p.commits left) opening (whole_found store.log (d.began store.disk) (commits_in store.log (d.seen store.disk)) left (all left now));
+    }) (c.finish-disk.ensures.all (c.in-Ok.ensures.store.steady ∙ sealed))))
 
 pub returns-in-Ok-clause-lasts : goal.returns-in-Ok-clause-lasts
 returns-in-Ok-clause-lasts g c steady left now =
     let d = g.D.DiskState in
     let store = c.in-Ok.store in
     let sealed : IsTrue c.seal.new.self.pages.steady = ap (λ (t : TableView). t.pages.steady) c.seal.ensures.same ∙ steady in
-    let opening = c.in-Ok.ensures.opening ∙ ap (λ (t : TableView). t.pages.opening) c.seal.ensures.same in
+    let opening = c.in-Ok.ensures.store.opening ∙ ap (λ (t : TableView). t.pages.opening) c.seal.ensures.same in
     subst (λ (o : Opening). FindsEach o.logged o.log o.commits o.doubt left) opening
-    (each_found store.log (d.began store.disk) (commits_in store.log (d.seen store.disk)) store.doubt left (c.finish-disk.ensures.now (c.in-Ok.ensures.steady ∙ sealed) left now))
+    (each_found store.log (d.began store.disk) (commits_in store.log (d.seen store.disk)) store.doubt left (c.finish-disk.ensures.now (c.in-Ok.ensures.store.steady ∙ sealed) left now))

@@ -25,22 +25,22 @@ pub returns-in-Ok-clause-session : goal.returns-in-Ok-clause-session
 returns-in-Ok-clause-session g c steady tree contents version closed few =
     let there = subst (λ (f : PageFile). IsClosed version f.pages f.tail tree contents) (sym (c.requires.file steady)) closed in
     let opened = c.in-Ok.ensures.reopened steady tree contents version there few in
-    let same = c.in-Ok.ensures.stored in
+    let same = c.in-Ok.ensures.over in
     let ends = λ (s : Seen) (order : ℕ) (o : Opening). EndsFile c.args.manner (g.R.CountedRead.left c.args.reader.now) (g.R.CountedRead.left c.run_table.new.reader) (g.W.CountedWrite.held c.args.out.now) (g.W.CountedWrite.held c.run_table.new.out) c.args.calls.now c.run_table.new.calls s (ClosesSafely g.D.DiskState (opening_file o) c.run_table.result.disk c.run_table.result.unclosed order) c.run_table.result.unclosed c.run_table.result.status in
-    subst (λ (o : Option FileFault). MatchOption o (ends (opened_file contents c.args.limits (g.D.DiskState.failures c.args.store.disk)) tree.order (opened_over (g.D.DiskState.began c.args.store.disk) c.args.store.log (commits_in c.args.store.log (g.D.DiskState.seen c.args.store.disk)) c.args.store.doubt)) IsOutsideFile) (sym c.run_table.ensures.opened) (subst (λ (x : Seen × ℕ × Opening). ends x.0 x.1 x.2) (λ i. (opened_file (opened.1 i) c.args.limits ((same.4 ∙ ap (failures_with (g.D.DiskState.failures c.args.store.disk)) c.requires.unused.1) i), (opened.0 i).order, c.in-Ok.ensures.opening i)) (c.run_table.ensures.session (same.2 ∙ steady) (c.in-Ok.ensures.no_faults.0, c.in-Ok.ensures.no_faults.1, c.in-Ok.ensures.no_calls)))
+    subst (λ (o : Option FileFault). MatchOption o (ends (opened_file contents c.args.limits (g.D.DiskState.failures c.args.store.disk)) tree.order (opened_over (g.D.DiskState.began c.args.store.disk) c.args.store.log (commits_in c.args.store.log (g.D.DiskState.seen c.args.store.disk)) c.args.store.doubt)) IsOutsideFile) (sym c.run_table.ensures.opened) (subst (λ (x : Seen × ℕ × Opening). ends x.0 x.1 x.2) (λ i. (opened_file (opened.1 i) c.args.limits ((same.failures ∙ ap (failures_with (g.D.DiskState.failures c.args.store.disk)) c.requires.unused.1) i), (opened.0 i).order, c.in-Ok.ensures.over.opening i)) (c.run_table.ensures.session (same.steady ∙ steady) (c.in-Ok.ensures.uncalled.no_refusals, c.in-Ok.ensures.uncalled.no_damages, c.in-Ok.ensures.uncalled.no_calls)))
 
 pub returns-in-Ok-clause-ran : goal.returns-in-Ok-clause-ran
 returns-in-Ok-clause-ran g c none =
-    c.run_table.ensures.counted (c.in-Ok.ensures.guard ∙ (λ i. guard_of (c.requires.unused.0 i) c.args.store.kept (c.requires.unused.1 i))) c.in-Ok.ensures.no_tail
+    c.run_table.ensures.counted (c.in-Ok.ensures.over.guard ∙ (λ i. guard_of (c.requires.unused.0 i) c.args.store.kept (c.requires.unused.1 i))) c.in-Ok.ensures.no_tail
 
 pub returns-in-Err-clause-device : goal.returns-in-Err-clause-device
 returns-in-Err-clause-device g c =
     let failed = g.D.DiskState.failures c.args.store.disk in
     let store = c.in-Err.stop.store in
     let fault = c.in-Err.stop.fault in
-    let guard = c.in-Err.ensures.stays.guard ∙ (λ i. guard_of (c.requires.unused.0 i) c.args.store.kept (c.requires.unused.1 i)) in
+    let guard = c.in-Err.ensures.back.stays.guard ∙ (λ i. guard_of (c.requires.unused.0 i) c.args.store.kept (c.requires.unused.1 i)) in
     let same = unrefused store.state store.kept (g.D.DiskState.failures store.disk) store.refusals (counted failed (is_device_fault fault)) _ guard refl
-    (c.in-Err.ensures.failures ∙ ap (λ k. counted (failures_with failed k) (is_device_fault fault)) c.requires.unused.1) in
+    (c.in-Err.ensures.back.failures ∙ ap (λ k. counted (failures_with failed k) (is_device_fault fault)) c.requires.unused.1) in
     let left = (c.take_back-disk.ensures.unsealed (unsealed store.state store.kept store.refusals _ guard refl)).0 in
     some_told c.unopened.result.unopened c.from.result (λ f. g.D.DiskState.failures c.unopened.result.disk ≡ counted failed (is_device f)) (ap (λ e. e.unopened) c.unopened.ensures)
     (ap (λ e. g.D.DiskState.failures e.disk) c.unopened.ensures ∙ ap g.D.DiskState.failures left ∙ same ∙ ap (counted failed) (device_of_opening fault) ∙ ap (λ (f : FileFault). counted failed (is_device f)) (sym c.from.ensures))

@@ -70,5 +70,5 @@ pub returns-clause-told : goal.returns-clause-told
 returns-clause-told g c steady tree contents version closed few =
     let opened = c.in-Ok.ensures.reopened steady tree contents version closed few in
     let says = c.counts_of.ensures in
-    let is = same_counts _ _ c.args.limits.records _ c.in-Ok.table tree contents c.counts_of.result (c.in-Ok.ensures.found steady) opened.0 opened.1 says.tree.0 says.tree.1 (says.records (c.in-Ok.ensures.stored.2 ∙ steady)) says.pages says.free in
+    let is = same_counts _ _ c.args.limits.records _ c.in-Ok.table tree contents c.counts_of.result (c.in-Ok.ensures.found steady) opened.0 opened.1 says.tree.0 says.tree.1 (says.records (c.in-Ok.ensures.over.steady ∙ steady)) says.pages says.free in
     told_so c.tell_counts-told.result (g.W.Write.contents c.args.out.now) (g.W.Write.contents c.tell_counts-told.new.out) c.counts_of.result _ is c.tell_counts-told.ensures.told c.tell_counts-told.ensures.stops

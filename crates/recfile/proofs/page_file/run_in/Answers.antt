@@ -14,8 +14,8 @@ use Rattle.recfile.proofs.page_file.run_in.Goals.{In-Ok}
 module _ (g : given.Over) (c : In-Ok g) where
   made : origin_of c.in-Ok.table ≡ opened_in g.S.StoreState c.in-Ok.table.tree.order c.args.store
   made =
-      let same = c.in-Ok.ensures.stored in
-      λ i. record { order = c.in-Ok.table.tree.order; stored = same.0 i; tail = same.1 i; steady = same.2 i; opening = c.in-Ok.ensures.opening i; shapes = c.in-Ok.ensures.shapes i; writes = same.3 i; journal = c.in-Ok.ensures.journal i; guard = c.in-Ok.ensures.guard i }
+      let same = c.in-Ok.ensures.over in
+      λ i. record { order = c.in-Ok.table.tree.order; stored = same.stored i; tail = same.tail i; steady = same.steady i; opening = c.in-Ok.ensures.over.opening i; shapes = c.in-Ok.ensures.over.shapes i; writes = same.writes i; journal = c.in-Ok.ensures.over.journal i; guard = c.in-Ok.ensures.over.guard i }
 
 at_none : {A : Type 0} (o : Option A) (P : A → Type 0) → o ≡ None → IfSome o P
 at_none o P is = subst (λ x. IfSome x P) (sym is) tt
@@ -41,6 +41,6 @@ returns-in-Ok-clause-stopped g c = c.run_opened.ensures.stopped c.args.store (ma
 pub returns-in-Ok-clause-session : goal.returns-in-Ok-clause-session
 returns-in-Ok-clause-session g c steady tree contents version closed few =
     let opened = c.in-Ok.ensures.reopened steady tree contents version closed few in
-    let same = c.in-Ok.ensures.stored in
+    let same = c.in-Ok.ensures.over in
     let ends = λ (s : Seen) (order : ℕ). EndsFile c.args.manner (g.R.CountedRead.left c.args.reader.now) (g.R.CountedRead.left c.run_opened.new.reader) (g.W.CountedWrite.held c.args.out.now) (g.W.CountedWrite.held c.run_opened.new.out) c.args.calls.now c.run_opened.new.calls s (ClosesIn g.S.StoreState c.args.store c.run_opened.result.store c.run_opened.result.unclosed order) c.run_opened.result.unclosed c.run_opened.result.status in
-    subst (λ (o : Option OpenFault). MatchOption o (ends (opened_file contents c.args.limits (g.S.StoreState.failures c.args.store)) tree.order) IsOutside) (sym c.run_opened.ensures.opened) (subst (λ (x : Seen × ℕ). ends x.0 x.1) (λ i. (opened_file (opened.1 i) c.args.limits (same.4 i), (opened.0 i).order)) (c.run_opened.ensures.session c.args.store (made g (goal.at.returns-in-Ok-clause-session g c).In-Ok) (same.2 ∙ steady) (c.in-Ok.ensures.no_faults.0, c.in-Ok.ensures.no_faults.1, c.in-Ok.ensures.no_calls)))
+    subst (λ (o : Option OpenFault). MatchOption o (ends (opened_file contents c.args.limits (g.S.StoreState.failures c.args.store)) tree.order) IsOutside) (sym c.run_opened.ensures.opened) (subst (λ (x : Seen × ℕ). ends x.0 x.1) (λ i. (opened_file (opened.1 i) c.args.limits (same.failures i), (opened.0 i).order)) (c.run_opened.ensures.session c.args.store (made g (goal.at.returns-in-Ok-clause-session g c).In-Ok) (same.steady ∙ steady) (c.in-Ok.ensures.uncalled.no_refusals, c.in-Ok.ensures.uncalled.no_damages, c.in-Ok.ensures.uncalled.no_calls)))

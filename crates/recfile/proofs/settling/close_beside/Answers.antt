@@ -3,8 +3,8 @@ use Rattle.std.specs.Result.{is_err}
 use Rattle.rec_types.specs.Table.{counted}
 use Rattle.btree_delete.specs.TableView.{table_contents}
 use Rattle.recfile.specs.FileFaults.{is_device_answer}
+use Rattle.recfile.specs.Beside.{HoldsWhole}
 use Rattle.recfile.specs.Kept.{CountsClosing, IsKeptWith}
-use Rattle.recfile.specs.LogOver.{HoldsRecords}
 use Rattle.recfile.specs.declared.file_fault.FileFault.{FileFault}
 use Rattle.recfile.proofs.KeptLemmas.{ok_wider}
 use Rattle.recfile.proofs.SettlingLemmas.{ended_leaves, ended_loses, settled_with}
@@ -20,23 +20,23 @@ module _ (g : given.Over) (c : After-end_beside g) (steady : IsTrue c.args.table
   kept : IsKeptWith g.D.DiskState c.args.table.tree.order (table_contents c.args.table) c.close_table-disk.result.0
   kept = at_ok (c.close_table-disk.ensures.closed steady)
 
-  holds : HoldsRecords c.args.table.tree.order (table_contents c.args.table) (g.D.DiskState.seen c.close_table-disk.result.0).main
-  holds = at_ok (c.close_table-disk.ensures.holds steady)
+  whole : HoldsWhole g.D.DiskState c.args.table.pages.opening c.args.table.tree.order (table_contents c.args.table) c.close_table-disk.result.0
+  whole = at_ok (c.close_table-disk.ensures.whole steady)
 
 pub returns-in-Ok-clause-any_moment : goal.returns-in-Ok-clause-any_moment
 returns-in-Ok-clause-any_moment g c steady left since =
     let here = (goal.at.returns-in-Ok-clause-any_moment g c).After-end_beside in
-    ended_leaves g.D.DiskState (g.met.D.Disk.counts_now) c.args.table.pages.opening c.args.table.tree.order (table_contents c.args.table) c.close_table-disk.result.0 c.end_beside.result.0 (kept g here steady).settled (holds g here steady) (at_ok g here steady (c.close_table-disk.ensures.whole steady)) (c.close_table-disk.ensures.commits steady) c.end_beside.ensures.pages c.end_beside.ensures.any_moment left since
+    ended_leaves g.D.DiskState (g.met.D.Disk.counts_now) c.args.table.pages.opening c.args.table.tree.order (table_contents c.args.table) c.close_table-disk.result.0 c.end_beside.result.0 (kept g here steady).settled (whole g here steady).holds (whole g here steady).whole (c.close_table-disk.ensures.commits steady) c.end_beside.ensures.pages c.end_beside.ensures.any_moment left since
 
 pub returns-in-Ok-clause-lasts : goal.returns-in-Ok-clause-lasts
 returns-in-Ok-clause-lasts g c steady left now =
     let here = (goal.at.returns-in-Ok-clause-lasts g c).After-end_beside in
-    ended_loses g.D.DiskState (g.met.D.Disk.counts_now) c.args.table.pages.opening c.args.table.tree.order (table_contents c.args.table) c.close_table-disk.result.0 c.end_beside.result.0 (kept g here steady).settled (holds g here steady) (c.close_table-disk.ensures.lasts steady) c.end_beside.ensures.pages c.end_beside.ensures.any_moment left now
+    ended_loses g.D.DiskState (g.met.D.Disk.counts_now) c.args.table.pages.opening c.args.table.tree.order (table_contents c.args.table) c.close_table-disk.result.0 c.end_beside.result.0 (kept g here steady).settled (whole g here steady).holds (c.close_table-disk.ensures.lasts steady) c.end_beside.ensures.pages c.end_beside.ensures.any_moment left now
 
 pub returns-in-Ok-clause-settled : goal.returns-in-Ok-clause-settled
 returns-in-Ok-clause-settled g c steady =
     let here = (goal.at.returns-in-Ok-clause-settled g c).After-end_beside in
-    ok_wider c.end_beside.result.1 _ _ (settled_with g.D.DiskState (g.met.D.Disk.counts_now) c.args.table.tree.order (table_contents c.args.table) c.close_table-disk.result.0 c.end_beside.result.0 (kept g here steady).settled (holds g here steady) c.end_beside.ensures.pages) c.end_beside.ensures.gone
+    ok_wider c.end_beside.result.1 _ _ (settled_with g.D.DiskState (g.met.D.Disk.counts_now) c.args.table.tree.order (table_contents c.args.table) c.close_table-disk.result.0 c.end_beside.result.0 (kept g here steady).settled (whole g here steady).holds c.end_beside.ensures.pages) c.end_beside.ensures.gone
 
 pub returns-in-Ok-clause-failures : goal.returns-in-Ok-clause-failures
 returns-in-Ok-clause-failures g c unsealed tail =

@@ -56,10 +56,10 @@ returns-clause-failures g c =
     let fault = c.in-Err-open_from.stop.fault in
     let unused = unused_guard old.state old.kept old.refusals c.requires.unused.0 c.requires.unused.1 in
     let still = c.head_of.ensures.stays.guard ∙ unused in
-    let guard = c.in-Err-open_from.ensures.stays.guard in
+    let guard = c.in-Err-open_from.ensures.back.stays.guard in
     let same = c.let_go-in-Err-open_from.ensures.same (unsealed new.state new.kept new.refusals (Unsealed 0) (guard ∙ still) refl) in
     let before = disk_counts old.state mid.state old.kept mid.kept (d.failures old.disk) old.refusals (d.failures mid.disk) mid.refusals false unused c.head_of.ensures.stays.guard c.in-Ok.ensures.failures in
-    let after = disk_counts mid.state new.state mid.kept new.kept (d.failures mid.disk) mid.refusals (d.failures new.disk) new.refusals (is_device_fault fault) still guard c.in-Err-open_from.ensures.failures in
+    let after = disk_counts mid.state new.state mid.kept new.kept (d.failures mid.disk) mid.refusals (d.failures new.disk) new.refusals (is_device_fault fault) still guard c.in-Err-open_from.ensures.back.failures in
     subst (λ (r : Result (Unit {0}) FileFault). CountsClosing (d.failures old.disk) (is_err r) (is_device_answer r) (d.failures c.let_go-in-Err-open_from.result.0)) (sym c.let_go-in-Err-open_from.ensures.fault) (record {
       again = false;
       failures = ap d.failures same ∙ after ∙ (λ i. counted (before i) (device_of_opening fault i)) ∙ ap (λ (f : FileFault). counted (d.failures old.disk) (is_device f)) (sym c.from.ensures);
@@ -100,7 +100,7 @@ module _ (g : given.Over) (c : After-settle_table g) (steady : IsTrue (g.D.DiskS
   began = g.D.DiskState.began c.args.store.disk
 
   table_steady : IsTrue c.in-Ok-open_from.table.pages.steady
-  table_steady = c.in-Ok-open_from.ensures.stored.2 ∙ c.head_of.ensures.stays.steady ∙ steady
+  table_steady = c.in-Ok-open_from.ensures.over.steady ∙ c.head_of.ensures.stays.steady ∙ steady
 
   store_steady : IsTrue (g.D.DiskState.steady c.head_of.new.store.disk)
   store_steady = c.head_of.ensures.stays.steady ∙ steady
@@ -109,7 +109,7 @@ module _ (g : given.Over) (c : After-settle_table g) (steady : IsTrue (g.D.DiskS
   main = (λ i. record { pages = c.head_of.ensures.stays.pages i; tail = c.head_of.ensures.stays.tail i }) ∙ (c.requires.file steady).1
 
   opening : (opening_file c.in-Ok-open_from.table.pages.opening ≡ recovered began) × (c.in-Ok-open_from.table.pages.opening.log ≡ began.commits.log) × (c.in-Ok-open_from.table.pages.opening.logged ≡ false)
-  opening = still_unlogged began c.args.store.log (commits_in c.args.store.log (g.D.DiskState.seen c.args.store.disk)) c.args.store.doubt (c.in-Ok-open_from.ensures.opening ∙ c.head_of.ensures.stays.opening) c.requires.unused.2
+  opening = still_unlogged began c.args.store.log (commits_in c.args.store.log (g.D.DiskState.seen c.args.store.disk)) c.args.store.doubt (c.in-Ok-open_from.ensures.over.opening ∙ c.head_of.ensures.stays.opening) c.requires.unused.2
 
   head : c.deref.result.now ≡ head_line (recovered began)
   head = c.deref.ensures.value ∙ c.in-Ok.ensures.head steady ∙ ap head_line (c.requires.file steady).1
@@ -192,14 +192,14 @@ returns-in-Ok-open_from-clause-failures g c =
     let guard = c.head_of.ensures.stays.guard in
     let first : failures_with (d.failures old.disk) old.refusals ≡ d.failures old.disk = ap (failures_with (d.failures old.disk)) c.requires.unused.1 in
     subst (λ n. CountsClosing n (is_err c.settle_table.result.1) (is_device_answer c.settle_table.result.1) (d.failures c.settle_table.result.0))
-    (c.in-Ok-open_from.ensures.stored.4 ∙ c.in-Ok.ensures.failures ∙ first)
-    (c.settle_table.ensures.failures (c.in-Ok-open_from.ensures.guard ∙ guard ∙ unused) c.in-Ok-open_from.ensures.no_tail)
+    (c.in-Ok-open_from.ensures.over.failures ∙ c.in-Ok.ensures.failures ∙ first)
+    (c.settle_table.ensures.failures (c.in-Ok-open_from.ensures.over.guard ∙ guard ∙ unused) c.in-Ok-open_from.ensures.no_tail)
 
 pub returns-clause-kept : goal.returns-clause-kept
 returns-clause-kept g c steady order records finds left since =
     let d = g.D.DiskState in
     let stays = c.head_of.ensures.stays in
-    let stop = c.in-Err-open_from.ensures.stays in
+    let stop = c.in-Err-open_from.ensures.back.stays in
     let is = still_unlogged (d.began c.args.store.disk) c.args.store.log (commits_in c.args.store.log (d.seen c.args.store.disk)) c.args.store.doubt (stop.opening ∙ stays.opening) c.requires.unused.2 in
     files_find order records (d.began c.args.store.disk) left finds (unlogged_leaves (d.began c.args.store.disk) left _ is.0 is.1 is.2 (c.let_go-in-Err-open_from.ensures.old (stop.steady ∙ stays.steady ∙ steady) left since))
 
@@ -214,7 +214,7 @@ pub returns-clause-unfound : goal.returns-clause-unfound
 returns-clause-unfound g c steady none left since =
     let d = g.D.DiskState in
     let stays = c.head_of.ensures.stays in
-    let stop = c.in-Err-open_from.ensures.stays in
+    let stop = c.in-Err-open_from.ensures.back.stays in
     let is = still_unlogged (d.began c.args.store.disk) c.args.store.log (commits_in c.args.store.log (d.seen c.args.store.disk)) c.args.store.doubt (stop.opening ∙ stays.opening) c.requires.unused.2 in
     unlogged_leaves (d.began c.args.store.disk) left _ is.0 is.1 is.2 (c.let_go-in-Err-open_from.ensures.old (stop.steady ∙ stays.steady ∙ steady) left since)
 

@@ -9,16 +9,16 @@ returns-in-Ok c = (
   c.just.ensures,
   record {
     closed = c.in-Ok.ensures.closed;
-    idle = λ idle. (c.in-Ok.ensures.idle idle).0;
+    idle = λ idle. (c.in-Ok.ensures.idle idle).0.pages;
     steps = c.in-Ok.ensures.journal;
     opened = λ opened ks has. (last_try c.args.table c.in-Ok.store opened ks c.in-Ok.ensures.journal has).0;
-    fronts = λ ks has. fronts_tried c.args.table c.in-Ok.store ks c.in-Ok.ensures.journal has c.close.ensures.fronts c.close.ensures.again;
+    fronts = λ ks has. fronts_tried c.args.table c.in-Ok.store ks c.in-Ok.ensures.journal has c.close.ensures.stops.fronts c.close.ensures.stops.again;
   },
 )
 
 pub returns-in-Err : goal.returns-in-Err
 returns-in-Err c =
-    let table = c.in-Err.ensures.table in (
+    let table = c.in-Err.ensures.fault.table in (
       c.just-in-Err.ensures,
       record {
         tree = ap (λ (t : TableView). t.tree) table;

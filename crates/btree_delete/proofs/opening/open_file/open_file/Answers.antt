@@ -1,4 +1,4 @@
-use Rattle.std.proofs.Common.{◌≡◌, ℕ, ◌≤◌, List, length, IsTrue, ap, sym, ◌∙◌, subst, arith, refl}
+use Rattle.std.proofs.Common.{rules, ◌≡◌, ℕ, ◌≤◌, List, length, IsTrue, ap, sym, ◌∙◌, subst, arith, refl}
 use Rattle.std.specs.BTreeSet.{contains}
 use Rattle.std.specs.BTreeMap.{is_at}
 use Rattle.std.specs.List.{list_any}
@@ -23,11 +23,11 @@ module _ (g : given.Over) (c : After-records g) where
   stored = g.S.StoreState.pages c.args.store
 
   map_is : at c.new-pages.result.pages ≡ in_file stored
-  map_is = file_map stored (g.S.StoreState.pages c.check_file.new.store) c.new-pages.result.pages c.in-Ok.header.pages (contains nat_cmp c.new.result) c.check_file.ensures.stays.pages c.in-Ok.ensures.long.0 c.new-pages.ensures.count c.new-pages.ensures.pages
+  map_is = file_map stored (g.S.StoreState.pages c.check_file.new.store) c.new-pages.result.pages c.in-Ok.header.pages (contains nat_cmp c.new.result) c.check_file.ensures.asks.stays.pages c.in-Ok.ensures.long.0 c.new-pages.ensures.count c.new-pages.ensures.pages
       (λ n. ap (λ (keys : List ℕ). list_any (is_at (nat_cmp n)) keys) c.new.ensures.empty)
 
   stored_is : c.new-pages.result.stored ≡ stored
-  stored_is = ap (λ (v : PagesView). v.stored) c.new-pages.ensures.store ∙ c.check_file.ensures.stays.pages
+  stored_is = ap (λ (v : PagesView). v.stored) c.new-pages.ensures.store ∙ c.check_file.ensures.asks.stays.pages
 
   fresh : AreFresh c.new-pages.result
   fresh = record {
@@ -37,7 +37,7 @@ module _ (g : given.Over) (c : After-records g) where
   }
 
   stays_steady : IsTrue (g.S.StoreState.steady c.args.store) → IsTrue c.new-pages.result.steady
-  stays_steady steady = ap (λ (v : PagesView). v.steady) c.new-pages.ensures.store ∙ c.check_file.ensures.stays.steady ∙ steady
+  stays_steady steady = ap (λ (v : PagesView). v.steady) c.new-pages.ensures.store ∙ c.check_file.ensures.asks.stays.steady ∙ steady
 
   -- a clean file's tree stands in them, and is as large as the header says
   clean_tree : IsTrue (g.S.StoreState.steady c.args.store) → (h : Header) (tree : Tree) (es : List Element) (us : List ℕ) → IsCleanFile stored (g.S.StoreState.tail c.args.store) h tree es us → h.count ≤ c.args.limits.records
@@ -96,4 +96,31 @@ returns-in-Err-measure_file-clause-fault g c = λ steady.
 
 pub returns-in_ok-without_free-in-Ok-measure_file-clause-no_tail : goal.returns-in_ok-without_free-in-Ok-measure_file-clause-no_tail
 returns-in_ok-without_free-in-Ok-measure_file-clause-no_tail g c =
-    ap (λ (v : PagesView). v.tail) c.in_ok-without_free-in-Ok-measure_file.ensures.freed.rest ∙ ap (λ (v : PagesView). v.tail) c.measure_file.ensures.surveys.store ∙ ap (λ (v : PagesView). v.tail) c.new-pages.ensures.store ∙ c.check_file.ensures.stays.tail ∙ c.in-Ok.ensures.long.1.no_tail
+    ap (λ (v : PagesView). v.tail) c.in_ok-without_free-in-Ok-measure_file.ensures.freed.rest ∙ ap (λ (v : PagesView). v.tail) c.measure_file.ensures.surveys.store ∙ ap (λ (v : PagesView). v.tail) c.new-pages.ensures.store ∙ c.check_file.ensures.asks.stays.tail ∙ c.in-Ok.ensures.long.1.no_tail
+
+pub returns-in_ok-without_free-in-Ok-measure_file-clause-over : goal.returns-in_ok-without_free-in-Ok-measure_file-clause-over
+returns-in_ok-without_free-in-Ok-measure_file-clause-over g c = record {
+  stored = search rules;
+  tail = search rules;
+  steady = search rules;
+  opening = search rules;
+  shapes = search rules;
+  writes = search rules;
+  failures = search rules;
+  journal = search rules;
+  guard = search rules;
+}
+
+pub returns-in-Err-clause-back : goal.returns-in-Err-clause-back
+returns-in-Err-clause-back g c = record {
+  stays = search rules;
+  shapes = search rules;
+  failures = search rules;
+}
+
+pub returns-in-Err-measure_file-clause-back : goal.returns-in-Err-measure_file-clause-back
+returns-in-Err-measure_file-clause-back g c = record {
+  stays = search rules;
+  shapes = search rules;
+  failures = search rules;
+}

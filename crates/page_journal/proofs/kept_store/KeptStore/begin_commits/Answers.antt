@@ -1,8 +1,7 @@
-use Rattle.std.proofs.Common.{◌≡◌, [], ◌∷◌, None, ap, sym, ◌∙◌, subst}
+use Rattle.std.proofs.Common.{rules, [], ◌∷◌, ap, sym, ◌∙◌, subst}
 use Rattle.page_journal.specs.KeptStores.{KeptStored, old_file_of}
 use Rattle.page_journal.specs.Crash.{StandsFor}
 use Rattle.page_journal.specs.Logging.{SaysNoneOr}
-use Rattle.page_journal.specs.declared.seal_state.SealState.TheVariants.{Unsealed}
 use Rattle.page_journal.proofs.LoggedLemmas.{begin_all, begin_stops, none_logged, ready_stands, stood}
 use Rattle.page_journal.proofs.kept_store.KeptStore.begin_commits.Goals as goal
 
@@ -47,3 +46,10 @@ returns-in-Err-clause-stopped g c = λ st unit is spelt f left.
     c.begin_log.ensures.pages
     (λ clear. c.begin_log.ensures.any_moment steady clear unit is spelt)
     (c.self.invariant.1 steady) f left)
+
+pub returns-in-Ok-clause-keeps : goal.returns-in-Ok-clause-keeps
+returns-in-Ok-clause-keeps g c = record {
+  same = search rules;
+  steady = search rules;
+  began = search rules;
+}

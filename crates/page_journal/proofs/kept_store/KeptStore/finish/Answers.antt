@@ -1,4 +1,4 @@
-use Rattle.std.proofs.Common.{◌∙◌, ap, inl, subst, sym, OnOk}
+use Rattle.std.proofs.Common.{rules, ◌∙◌, ap, inl, subst, sym, OnOk}
 use Rattle.page_journal.specs.Crash.{IsEither}
 use Rattle.page_journal.specs.Files.{Files}
 use Rattle.page_journal.specs.LoggedStores.{FindsAll, FindsNow, LeavesWithCommits, commits_in}
@@ -62,3 +62,19 @@ returns-clause-now g c = λ st f left.
       | in-Sealed w ↦ all_after d counts c.self.inside.log c.self.inside.doubt.items c.self.inside.disk w.commit-done.new.disk w.commit-done.ensures.logs i.1 f (subst (λ e. d.may_leave e f) w.disk-is left)
       | in-Stopped w ↦ all_now d counts c.self.inside.log c.self.inside.doubt.items c.self.inside.disk i.1 f (subst (λ e. d.may_leave e f) w.disk-is left)
     ])
+
+pub returns-clause-keeps : goal.returns-clause-keeps
+returns-clause-keeps g c = record {
+  same = search rules;
+  steady = search rules;
+  began = search rules;
+}
+
+pub returns-clause-finished : goal.returns-clause-finished
+returns-clause-finished g c = record {
+  unsealed = search rules;
+  moments = search rules;
+  stopped = search rules;
+  failures = search rules;
+  no_memory = search rules;
+}

@@ -1,4 +1,4 @@
-use Rattle.std.proofs.Common.{◌≡◌, ◌∙◌, sym, ap, subst, length, List, Bool}
+use Rattle.std.proofs.Common.{rules, ◌≡◌, ◌∙◌, sym, ap, subst, length, List, Bool}
 use Rattle.page_journal.specs.Crash.{KeepsMarked}
 use Rattle.page_journal.specs.Files.{Files}
 use Rattle.page_journal.specs.KeptStores.{IsGuarded, KeptStored, old_file_of}
@@ -112,3 +112,45 @@ invariant_of-self-in_err-shape g c = (
         whole.2,
       ),
 )
+
+pub returns-in_default-clause-keeps : goal.returns-in_default-clause-keeps
+returns-in_default-clause-keeps g c = record {
+  same = search rules;
+  steady = search rules;
+  began = search rules;
+}
+
+pub returns-in_err-shape-clause-keeps : goal.returns-in_err-shape-clause-keeps
+returns-in_err-shape-clause-keeps g c = record {
+  same = search rules;
+  steady = search rules;
+  began = search rules;
+}
+
+pub returns-then-shape-gt0-clause-keeps : goal.returns-then-shape-gt0-clause-keeps
+returns-then-shape-gt0-clause-keeps g c = record {
+  same = search rules;
+  steady = search rules;
+  began = search rules;
+}
+
+pub returns-in_default-flags_of-clause-keeps : goal.returns-in_default-flags_of-clause-keeps
+returns-in_default-flags_of-clause-keeps g c = record {
+  same = search rules;
+  steady = search rules;
+  began = search rules;
+}
+
+pub returns-in_err-seal-clause-keeps : goal.returns-in_err-seal-clause-keeps
+returns-in_err-seal-clause-keeps g c = record {
+  same = search rules;
+  steady = search rules;
+  began = search rules;
+}
+
+pub returns-clause-keeps : goal.returns-clause-keeps
+returns-clause-keeps g c = record {
+  same = search rules;
+  steady = search rules;
+  began = search rules;
+}

@@ -1,4 +1,4 @@
-use Rattle.std.proofs.Common.{◌≡◌, ◌∙◌, ap, sym, subst, OnOk}
+use Rattle.std.proofs.Common.{rules, ◌≡◌, ◌∙◌, ap, sym, subst, OnOk}
 use Rattle.page_journal.specs.Crash.{StandsFor}
 use Rattle.page_journal.specs.LoggedStores.{FindsNow, MayFind, commits_in}
 use Rattle.page_journal.specs.KeptStores.{KeptStored, old_file_of}
@@ -64,3 +64,10 @@ returns-clause-now g c = λ st f left.
       | in-Sealed w ↦ all_after d counts c.self.inside.log c.self.inside.doubt.items c.self.inside.disk w.recover-done.new.disk w.recover-done.ensures.logs i.1 f (subst (λ e. d.may_leave e f) w.disk-is left)
       | in_default w ↦ all_now d counts c.self.inside.log c.self.inside.doubt.items c.self.inside.disk i.1 f (subst (λ e. d.may_leave e f) w.disk-is left)
     ])
+
+pub returns-clause-leaves : goal.returns-clause-leaves
+returns-clause-leaves g c = record {
+  steady = search rules;
+  began = search rules;
+  failures = search rules;
+}

@@ -9,3 +9,23 @@ returns-clause-old_pages g c = search rules
 
 pub returns-clause-changes : goal.returns-clause-changes
 returns-clause-changes g c = search rules
+
+pub returns-then-write_fails_now-clause-passes : goal.returns-then-write_fails_now-clause-passes
+returns-then-write_fails_now-clause-passes g c = record {
+  fails = search rules;
+  passes = search rules;
+  reads_below = search rules;
+  shapes_below = search rules;
+  writes_below = search rules;
+  rest = search rules;
+}
+
+pub returns-clause-passes : goal.returns-clause-passes
+returns-clause-passes g c = record {
+  fails = search rules;
+  passes = search rules;
+  reads_below = search rules;
+  shapes_below = search rules;
+  writes_below = search rules;
+  rest = search rules;
+}

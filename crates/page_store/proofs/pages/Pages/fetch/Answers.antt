@@ -47,9 +47,6 @@ module _ (g : given.Over) (c : After-read-arg-2-1 g) where
 pub returns-then-not-is_in_use-clause-out_of_range : goal.returns-then-not-is_in_use-clause-out_of_range
 returns-then-not-is_in_use-clause-out_of_range g c = (λ _. gone g (goal.at.returns-then-not-is_in_use-clause-out_of_range g c).Then-not-is_in_use, λ _. refl)
 
-pub returns-then-not-is_in_use-clause-from_store : goal.returns-then-not-is_in_use-clause-from_store
-returns-then-not-is_in_use-clause-from_store g c = λ _ some. none_not_some _ (gone g (goal.at.returns-then-not-is_in_use-clause-from_store g c).Then-not-is_in_use) some
-
 pub returns-then-not-is_in_use-clause-from_memory : goal.returns-then-not-is_in_use-clause-from_memory
 returns-then-not-is_in_use-clause-from_memory g c = λ here.
     let used = memory_used (g.S.StoreState.pages c.self.inside.store) (slots_of c.self.inside.changed.items) c.self.inside.free.keys c.self.inside.count c.args.n (ap (λ (v : PagesView). is_in_memory v c.args.n) c.self.view_is ∙ here) in
@@ -57,7 +54,11 @@ returns-then-not-is_in_use-clause-from_memory g c = λ here.
 
 pub returns-then-not-is_in_use-clause-reads : goal.returns-then-not-is_in_use-clause-reads
 returns-then-not-is_in_use-clause-reads g c =
-    ap (counted c.args.self.now.reads) (sym (unused_unread c.args.self.now c.args.n (gone g (goal.at.returns-then-not-is_in_use-clause-reads g c).Then-not-is_in_use)))
+    let none = gone g (goal.at.returns-then-not-is_in_use-clause-reads g c).Then-not-is_in_use in
+    record {
+      reads = ap (counted c.args.self.now.reads) (sym (unused_unread c.args.self.now c.args.n none));
+      unstaged = λ _ some. none_not_some _ none some;
+    }
 
 pub returns-in-Some-clause-page : goal.returns-in-Some-clause-page
 returns-in-Some-clause-page g c = λ _. newest g (goal.at.returns-in-Some-clause-page g c).After-to-1
@@ -67,8 +68,8 @@ returns-in-Some-clause-out_of_range g c =
     let there = newest g (goal.at.returns-in-Some-clause-out_of_range g c).After-to-1 in
     (λ other. absurd (false≢true (ap is_ok (sym other))), λ gone. none_not_some _ gone (ap is_some there))
 
-pub returns-in-Some-clause-nothing_read : goal.returns-in-Some-clause-nothing_read
-returns-in-Some-clause-nothing_read g c = λ gone. none_not_some _ gone (ap is_some (newest g (goal.at.returns-in-Some-clause-nothing_read g c).After-to-1))
+pub returns-in-Some-clause-nothing : goal.returns-in-Some-clause-nothing
+returns-in-Some-clause-nothing g c = λ gone. none_not_some _ gone (ap is_some (newest g (goal.at.returns-in-Some-clause-nothing g c).After-to-1))
 
 pub returns-in-Some-clause-from_memory : goal.returns-in-Some-clause-from_memory
 returns-in-Some-clause-from_memory g c = λ _. (refl, refl, newest g (goal.at.returns-in-Some-clause-from_memory g c).After-to-1)
@@ -76,7 +77,10 @@ returns-in-Some-clause-from_memory g c = λ _. (refl, refl, newest g (goal.at.re
 pub returns-in-Some-clause-reads : goal.returns-in-Some-clause-reads
 returns-in-Some-clause-reads g c =
     let here : is_in_memory c.args.self.now c.args.n ≡ true = ap (λ (v : PagesView). is_in_memory v c.args.n) (sym c.self.view_is) ∙ slot_in_memory (slots_of c.self.inside.changed.items) c.self.inside.free.keys c.self.inside.count c.args.n (c.is_in_use.ensures.0 c.if-not-is_in_use.false) ∙ ap is_some (sym (slot g (goal.at.returns-in-Some-clause-reads g c).After-to-1)) in
-    ap (counted c.args.self.now.reads) (sym (memory_unread c.args.self.now c.args.n here))
+    record {
+      reads = ap (counted c.args.self.now.reads) (sym (memory_unread c.args.self.now c.args.n here));
+      unstaged = search rules;
+    }
 
 pub returns-clause-page : goal.returns-clause-page
 returns-clause-page g c = λ steady.
@@ -89,11 +93,8 @@ returns-clause-out_of_range g c =
     let never = some g (goal.at.returns-clause-out_of_range g c).After-read-arg-2-1 in
     (λ other. search rules, λ gone. absurd (never gone))
 
-pub returns-clause-nothing_there : goal.returns-clause-nothing_there
-returns-clause-nothing_there g c = λ gone. absurd (some g (goal.at.returns-clause-nothing_there g c).After-read-arg-2-1 gone)
-
-pub returns-clause-nothing_read : goal.returns-clause-nothing_read
-returns-clause-nothing_read g c = λ gone. absurd (some g (goal.at.returns-clause-nothing_read g c).After-read-arg-2-1 gone)
+pub returns-clause-nothing : goal.returns-clause-nothing
+returns-clause-nothing g c = λ gone. absurd (some g (goal.at.returns-clause-nothing g c).After-read-arg-2-1 gone)
 
 pub returns-clause-from_memory : goal.returns-clause-from_memory
 returns-clause-from_memory g c = λ here. absurd (false≢true (sym (not_in_memory g (goal.at.returns-clause-from_memory g c).After-read-arg-2-1) ∙ here))
@@ -102,4 +103,8 @@ pub returns-clause-reads : goal.returns-clause-reads
 returns-clause-reads g c =
     let place = (goal.at.returns-clause-reads g c).After-read-arg-2-1 in
     let used = some_or_none (at c.args.self.now.pages c.args.n) (some g place) in
-    c.read.ensures.leaves.reads ∙ ap (λ (v : PagesView). counted v.reads true) c.self.view_is ∙ ap (counted c.args.self.now.reads) (sym (others_read c.args.self.now c.args.n used (not_in_memory g place)))
+    let counts = c.read.ensures.leaves.reads ∙ ap (λ (v : PagesView). counted v.reads true) c.self.view_is in
+    record {
+      reads = counts ∙ ap (counted c.args.self.now.reads) (sym (others_read c.args.self.now c.args.n used (not_in_memory g place)));
+      unstaged = λ _ _. counts;
+    }

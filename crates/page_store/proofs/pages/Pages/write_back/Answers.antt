@@ -61,21 +61,32 @@ module _ (g : given.Over) (c : After-clear-arg-1 g) where
   put : IsTrue c.args.self.now.steady → AreStored (to_write (slots_of c.self.inside.changed.items) c.self.inside.free.keys c.self.inside.count) (g.S.StoreState.pages c.write_out-written.new.store)
   put steady = stored_in _ _ c.self.inside.free.keys c.self.inside.count _ c.deref.ensures.value (c.in_default.ensures.pages (ap (λ (v : PagesView). v.steady) c.self.view_is ∙ steady))
 
-pub returns-in-Err-clause-pages : goal.returns-in-Err-clause-pages
-returns-in-Err-clause-pages g c = λ _.
-    same_pages g (goal.at.returns-in-Err-clause-pages g c).In-Err
+-- the calls that write the slots that were passed are those that write the pages in memory
+steps_in : (v : PagesView) (stored : List (List ℕ)) (seen items : List (Option (Box (List ℕ) Global))) (free : List ℕ) (count : ℕ) (writing clean : List ℕ) → seen ≡ items → pages_of stored (slots_of items) free count ≡ v.pages → in_memory_of (slots_of items) free count ≡ v.in_memory
+    → writing_back (to_write (slots_of seen) free count) count writing clean ≡ writing_back (memory_pages v) (length v.pages) writing clean
+steps_in v stored seen items free count writing clean same pages memory =
+    ap (λ (xs : List (Option (Box (List ℕ) Global))). writing_back (to_write (slots_of xs) free count) count writing clean) same
+    ∙ writing_alike (to_write (slots_of items) free count) (memory_pages v) count (length v.pages) writing clean (sym (length-pages_of stored (slots_of items) free count) ∙ ap (λ (ps : List (Option (List ℕ))). length ps) pages)
+    (λ n. written_in_memory stored (slots_of items) free count n ∙ ap (λ (bs : List Bool). if get_or bs n false then at (pages_of stored (slots_of items) free count) n else None) memory ∙ ap (λ (ps : List (Option (List ℕ))). if get_or v.in_memory n false then at ps n else None) pages)
 
-pub returns-in-Err-clause-same_count : goal.returns-in-Err-clause-same_count
-returns-in-Err-clause-same_count g c =
-    length-pages_of _ _ _ _ ∙ sym (length-pages_of (g.S.StoreState.pages c.self.inside.store) (slots_of c.self.inside.changed.items) c.self.inside.free.keys c.self.inside.count) ∙ ap (λ (v : PagesView). length v.pages) c.self.view_is
+-- the guard stays where the pages in memory are allowed
+stays_allowed : (v : PagesView) (steps other : List Step) (old new : Guard) → steps ≡ other → old ≡ v.guard → (AllowsAll old steps → new ≡ old) → AllowsAll v.guard other → new ≡ v.guard
+stays_allowed v steps other old new same is passes all =
+    passes (subst (AllowsAll old) (sym same) (subst (λ (k : Guard). AllowsAll k other) (sym is) all)) ∙ is
 
-pub returns-in-Err-clause-same_free : goal.returns-in-Err-clause-same_free
-returns-in-Err-clause-same_free g c =
-    ap free_numbers (same_pages g (goal.at.returns-in-Err-clause-same_free g c).In-Err)
-
-pub returns-in-Err-clause-same_use : goal.returns-in-Err-clause-same_use
-returns-in-Err-clause-same_use g c = λ n.
-    ap (λ (ps : List (Option (List ℕ))). is_some (at ps n)) (same_pages g (goal.at.returns-in-Err-clause-same_use g c).In-Err)
+pub returns-in-Err-clause-keeps : goal.returns-in-Err-clause-keeps
+returns-in-Err-clause-keeps g c = record {
+  pages =
+      λ _.
+      same_pages g (goal.at.returns-in-Err-clause-keeps g c).In-Err;
+  count =
+      length-pages_of _ _ _ _ ∙ sym (length-pages_of (g.S.StoreState.pages c.self.inside.store) (slots_of c.self.inside.changed.items) c.self.inside.free.keys c.self.inside.count) ∙ ap (λ (v : PagesView). length v.pages) c.self.view_is;
+  free =
+      ap free_numbers (same_pages g (goal.at.returns-in-Err-clause-keeps g c).In-Err);
+  in_use =
+      λ n.
+      ap (λ (ps : List (Option (List ℕ))). is_some (at ps n)) (same_pages g (goal.at.returns-in-Err-clause-keeps g c).In-Err);
+}
 
 pub returns-in-Err-clause-err : goal.returns-in-Err-clause-err
 returns-in-Err-clause-err g c =
@@ -106,104 +117,93 @@ returns-in-Err-clause-stopped g c = λ steady.
 
 pub returns-in-Err-clause-memory : goal.returns-in-Err-clause-memory
 returns-in-Err-clause-memory g c = λ same.
-    let grows = (c.in-Err.ensures.memory (memory_back c.in-Err.fault c.told.result c.told.ensures same)).grows in
+    let only = c.in-Err.ensures.memory (memory_back c.in-Err.fault c.told.result c.told.ensures same) in
     let long = length-pages_of (g.S.StoreState.pages c.self.inside.store) (slots_of c.self.inside.changed.items) c.self.inside.free.keys c.self.inside.count in
-    subst (λ (v : PagesView). GrowsTo (length v.pages) v.stored (g.S.StoreState.pages c.write_out-written.new.store)) c.self.view_is
-    (subst (λ (k : ℕ). GrowsTo k (g.S.StoreState.pages c.self.inside.store) (g.S.StoreState.pages c.write_out-written.new.store)) (sym long) grows)
+    record {
+      grows =
+          subst (λ (v : PagesView). GrowsTo (length v.pages) v.stored (g.S.StoreState.pages c.write_out-written.new.store)) c.self.view_is
+          (subst (λ (k : ℕ). GrowsTo k (g.S.StoreState.pages c.self.inside.store) (g.S.StoreState.pages c.write_out-written.new.store)) (sym long) only.grows);
+      journal = only.journal ∙ ap (λ (v : PagesView). v.journal) c.self.view_is;
+    }
 
-pub returns-clause-count : goal.returns-clause-count
-returns-clause-count g c =
-    c.in_default.ensures.long.count ∙ sym (length-pages_of (g.S.StoreState.pages c.self.inside.store) (slots_of c.self.inside.changed.items) c.self.inside.free.keys c.self.inside.count) ∙ ap (λ (v : PagesView). length v.pages) c.self.view_is
+pub returns-in-Err-clause-calls : goal.returns-in-Err-clause-calls
+returns-in-Err-clause-calls g c = record {
+  writes = search rules;
+  writes_err =
+      let many = calls_in c.args.self.now (g.S.StoreState.pages c.self.inside.store) _ c.self.inside.changed.items c.self.inside.free.keys c.self.inside.count c.deref.ensures.value (ap (λ (v : PagesView). v.pages) c.self.view_is) (ap (λ (v : PagesView). v.in_memory) c.self.view_is) in
+      let before = ap (λ (v : PagesView). v.writes) c.self.view_is in
+      subst (λ k. CountedUpTo (6 + k) c.args.self.now.writes (g.S.StoreState.writes c.write_out-written.new.store)) many
+      (subst (λ old. CountedUpTo (6 + how_many (λ n. is_some (to_write (slots_of c.deref.result.now) c.self.inside.free.keys c.self.inside.count n)) c.self.inside.count) old (g.S.StoreState.writes c.write_out-written.new.store)) before c.in-Err.ensures.carries.writes_err);
+  failures = search rules;
+  journal = search rules;
+  journal_err =
+      let all = steps_in c.args.self.now (g.S.StoreState.pages c.self.inside.store) _ c.self.inside.changed.items c.self.inside.free.keys c.self.inside.count c.args.writing.now c.args.clean.now c.deref.ensures.value (ap (λ (v : PagesView). v.pages) c.self.view_is) (ap (λ (v : PagesView). v.in_memory) c.self.view_is) in
+      subst (λ steps. NotesFront steps c.args.self.now.journal (g.S.StoreState.journal c.write_out-written.new.store)) all
+      (subst (λ old. NotesFront (writing_back (to_write (slots_of c.deref.result.now) c.self.inside.free.keys c.self.inside.count) c.self.inside.count c.args.writing.now c.args.clean.now) old (g.S.StoreState.journal c.write_out-written.new.store)) (ap (λ (v : PagesView). v.journal) c.self.view_is) c.in-Err.ensures.carries.journal_err);
+  guard =
+      let all = steps_in c.args.self.now (g.S.StoreState.pages c.self.inside.store) _ c.self.inside.changed.items c.self.inside.free.keys c.self.inside.count c.args.writing.now c.args.clean.now c.deref.ensures.value (ap (λ (v : PagesView). v.pages) c.self.view_is) (ap (λ (v : PagesView). v.in_memory) c.self.view_is) in
+      stays_allowed c.args.self.now _ _ _ _ all (ap (λ (v : PagesView). v.guard) c.self.view_is) c.write_out-written.ensures.carries.guard;
+}
 
-pub returns-clause-stored : goal.returns-clause-stored
-returns-clause-stored g c = λ steady.
-    let place = (goal.at.returns-clause-stored g c).After-clear-arg-1 in
-    subst (λ (v : PagesView). AreStored (at v.pages) (g.S.StoreState.pages c.write_out-written.new.store)) c.self.view_is (all_stored _ _ _ _ _ c.self.invariant.0 _ (leaves g place) (put g place steady))
+pub returns-clause-written : goal.returns-clause-written
+returns-clause-written g c = record {
+  count =
+      c.in_default.ensures.long.count ∙ sym (length-pages_of (g.S.StoreState.pages c.self.inside.store) (slots_of c.self.inside.changed.items) c.self.inside.free.keys c.self.inside.count) ∙ ap (λ (v : PagesView). length v.pages) c.self.view_is;
+  tail = search rules;
+  header = search rules;
+  stored =
+      λ steady.
+      let place = (goal.at.returns-clause-written g c).After-clear-arg-1 in
+      subst (λ (v : PagesView). AreStored (at v.pages) (g.S.StoreState.pages c.write_out-written.new.store)) c.self.view_is (all_stored _ _ _ _ _ c.self.invariant.0 _ (leaves g place) (put g place steady));
+  unwritten =
+      let same = subst (λ (xs : List (Option (Box (List ℕ) Global))). (n : ℕ) → n ≢ 0 → to_write (slots_of xs) c.self.inside.free.keys c.self.inside.count n ≡ None → slice_get (g.S.StoreState.pages c.write_out-written.new.store) n ≡ slice_get (g.S.StoreState.pages c.self.inside.store ++ blanks (c.self.inside.count - length (g.S.StoreState.pages c.self.inside.store))) n) c.deref.ensures.value c.in_default.ensures.unwritten in
+      subst (λ (v : PagesView). (n : ℕ) → n ≢ 0 → at v.pages n ≡ None → slice_get (g.S.StoreState.pages c.write_out-written.new.store) n ≡ slice_get (v.stored ++ blanks (length v.pages - length v.stored)) n) c.self.view_is (unwritten_pages _ _ _ _ _ c.self.invariant.0 _ (leaves g (goal.at.returns-clause-written g c).After-clear-arg-1) same);
+  idle = search rules;
+  in_memory =
+      λ n.
+      ap (λ (xs : List (Option (Box (List ℕ) Global))). get_or (in_memory_of (slots_of xs) c.self.inside.free.keys c.self.inside.count) n false) c.clear.ensures.items
+      ∙ none_in_memory [] c.self.inside.free.keys c.self.inside.count n refl;
+}
 
-pub returns-clause-unwritten : goal.returns-clause-unwritten
-returns-clause-unwritten g c =
-    let same = subst (λ (xs : List (Option (Box (List ℕ) Global))). (n : ℕ) → n ≢ 0 → to_write (slots_of xs) c.self.inside.free.keys c.self.inside.count n ≡ None → slice_get (g.S.StoreState.pages c.write_out-written.new.store) n ≡ slice_get (g.S.StoreState.pages c.self.inside.store ++ blanks (c.self.inside.count - length (g.S.StoreState.pages c.self.inside.store))) n) c.deref.ensures.value c.in_default.ensures.unwritten in
-    subst (λ (v : PagesView). (n : ℕ) → n ≢ 0 → at v.pages n ≡ None → slice_get (g.S.StoreState.pages c.write_out-written.new.store) n ≡ slice_get (v.stored ++ blanks (length v.pages - length v.stored)) n) c.self.view_is (unwritten_pages _ _ _ _ _ c.self.invariant.0 _ (leaves g (goal.at.returns-clause-unwritten g c).After-clear-arg-1) same)
-
-pub returns-clause-pages : goal.returns-clause-pages
-returns-clause-pages g c = λ steady.
-    let place = (goal.at.returns-clause-pages g c).After-clear-arg-1 in
-    ap (λ (xs : List (Option (Box (List ℕ) Global))). pages_of (g.S.StoreState.pages c.write_out-written.new.store) (slots_of xs) c.self.inside.free.keys c.self.inside.count) c.clear.ensures.items
-    ∙ pages_dropped _ _ _ _ _ c.self.invariant.0 _ (leaves g place) c.in_default.ensures.long.count (put g place steady)
-    ∙ ap (λ (v : PagesView). v.pages) c.self.view_is
-
-pub returns-clause-same_count : goal.returns-clause-same_count
-returns-clause-same_count g c =
-    length-pages_of _ _ _ _ ∙ sym (length-pages_of (g.S.StoreState.pages c.self.inside.store) (slots_of c.self.inside.changed.items) c.self.inside.free.keys c.self.inside.count) ∙ ap (λ (v : PagesView). length v.pages) c.self.view_is
-
-pub returns-clause-same_free : goal.returns-clause-same_free
-returns-clause-same_free g c =
-    ap (λ (xs : List (Option (Box (List ℕ) Global))). free_numbers (pages_of (g.S.StoreState.pages c.write_out-written.new.store) (slots_of xs) c.self.inside.free.keys c.self.inside.count)) c.clear.ensures.items
-    ∙ same_free _ _ _ _ _ c.self.invariant.0 _ (leaves g (goal.at.returns-clause-same_free g c).After-clear-arg-1) c.in_default.ensures.long.count
-    ∙ ap (λ (v : PagesView). free_numbers v.pages) c.self.view_is
-
-pub returns-clause-same_use : goal.returns-clause-same_use
-returns-clause-same_use g c = λ n.
-    ap (λ (xs : List (Option (Box (List ℕ) Global))). is_some (at (pages_of (g.S.StoreState.pages c.write_out-written.new.store) (slots_of xs) c.self.inside.free.keys c.self.inside.count) n)) c.clear.ensures.items
-    ∙ same_use _ _ _ _ _ c.self.invariant.0 _ (leaves g (goal.at.returns-clause-same_use g c).After-clear-arg-1) c.in_default.ensures.long.count n
-    ∙ ap (λ (v : PagesView). is_some (at v.pages n)) c.self.view_is
+pub returns-clause-keeps : goal.returns-clause-keeps
+returns-clause-keeps g c = record {
+  pages =
+      λ steady.
+      let place = (goal.at.returns-clause-keeps g c).After-clear-arg-1 in
+      ap (λ (xs : List (Option (Box (List ℕ) Global))). pages_of (g.S.StoreState.pages c.write_out-written.new.store) (slots_of xs) c.self.inside.free.keys c.self.inside.count) c.clear.ensures.items
+      ∙ pages_dropped _ _ _ _ _ c.self.invariant.0 _ (leaves g place) c.in_default.ensures.long.count (put g place steady)
+      ∙ ap (λ (v : PagesView). v.pages) c.self.view_is;
+  count =
+      length-pages_of _ _ _ _ ∙ sym (length-pages_of (g.S.StoreState.pages c.self.inside.store) (slots_of c.self.inside.changed.items) c.self.inside.free.keys c.self.inside.count) ∙ ap (λ (v : PagesView). length v.pages) c.self.view_is;
+  free =
+      ap (λ (xs : List (Option (Box (List ℕ) Global))). free_numbers (pages_of (g.S.StoreState.pages c.write_out-written.new.store) (slots_of xs) c.self.inside.free.keys c.self.inside.count)) c.clear.ensures.items
+      ∙ same_free _ _ _ _ _ c.self.invariant.0 _ (leaves g (goal.at.returns-clause-keeps g c).After-clear-arg-1) c.in_default.ensures.long.count
+      ∙ ap (λ (v : PagesView). free_numbers v.pages) c.self.view_is;
+  in_use =
+      λ n.
+      ap (λ (xs : List (Option (Box (List ℕ) Global))). is_some (at (pages_of (g.S.StoreState.pages c.write_out-written.new.store) (slots_of xs) c.self.inside.free.keys c.self.inside.count) n)) c.clear.ensures.items
+      ∙ same_use _ _ _ _ _ c.self.invariant.0 _ (leaves g (goal.at.returns-clause-keeps g c).After-clear-arg-1) c.in_default.ensures.long.count n
+      ∙ ap (λ (v : PagesView). is_some (at v.pages n)) c.self.view_is;
+}
 
 pub returns-clause-others : goal.returns-clause-others
 returns-clause-others g c =
     subst (λ (v : PagesView). KeepsOthers (at v.pages) (length v.pages) v.stored (g.S.StoreState.pages c.write_out-written.new.store)) c.self.view_is (leaves_pages _ _ _ _ _ c.self.invariant.0 _ (leaves g (goal.at.returns-clause-others g c).After-clear-arg-1))
 
-pub returns-in-Err-clause-writes_err : goal.returns-in-Err-clause-writes_err
-returns-in-Err-clause-writes_err g c =
-    let many = calls_in c.args.self.now (g.S.StoreState.pages c.self.inside.store) _ c.self.inside.changed.items c.self.inside.free.keys c.self.inside.count c.deref.ensures.value (ap (λ (v : PagesView). v.pages) c.self.view_is) (ap (λ (v : PagesView). v.in_memory) c.self.view_is) in
-    let before = ap (λ (v : PagesView). v.writes) c.self.view_is in
-    subst (λ k. CountedUpTo (6 + k) c.args.self.now.writes (g.S.StoreState.writes c.write_out-written.new.store)) many
-    (subst (λ old. CountedUpTo (6 + how_many (λ n. is_some (to_write (slots_of c.deref.result.now) c.self.inside.free.keys c.self.inside.count n)) c.self.inside.count) old (g.S.StoreState.writes c.write_out-written.new.store)) before c.in-Err.ensures.carries.writes_err)
-
-pub returns-clause-in_memory : goal.returns-clause-in_memory
-returns-clause-in_memory g c = λ n.
-    ap (λ (xs : List (Option (Box (List ℕ) Global))). get_or (in_memory_of (slots_of xs) c.self.inside.free.keys c.self.inside.count) n false) c.clear.ensures.items
-    ∙ none_in_memory [] c.self.inside.free.keys c.self.inside.count n refl
-
-pub returns-clause-writes : goal.returns-clause-writes
-returns-clause-writes g c =
-    let many = calls_in c.args.self.now (g.S.StoreState.pages c.self.inside.store) _ c.self.inside.changed.items c.self.inside.free.keys c.self.inside.count c.deref.ensures.value (ap (λ (v : PagesView). v.pages) c.self.view_is) (ap (λ (v : PagesView). v.in_memory) c.self.view_is) in
-    let before = ap (λ (v : PagesView). v.writes) c.self.view_is in
-    c.in_default.ensures.carries.writes ∙ ap (λ old. counted_times old (6 + how_many (λ n. is_some (to_write (slots_of c.deref.result.now) c.self.inside.free.keys c.self.inside.count n)) c.self.inside.count)) before ∙ ap (λ k. counted_times c.args.self.now.writes (6 + k)) many
-
--- the calls that write the slots that were passed are those that write the pages in memory
-steps_in : (v : PagesView) (stored : List (List ℕ)) (seen items : List (Option (Box (List ℕ) Global))) (free : List ℕ) (count : ℕ) (writing clean : List ℕ) → seen ≡ items → pages_of stored (slots_of items) free count ≡ v.pages → in_memory_of (slots_of items) free count ≡ v.in_memory
-    → writing_back (to_write (slots_of seen) free count) count writing clean ≡ writing_back (memory_pages v) (length v.pages) writing clean
-steps_in v stored seen items free count writing clean same pages memory =
-    ap (λ (xs : List (Option (Box (List ℕ) Global))). writing_back (to_write (slots_of xs) free count) count writing clean) same
-    ∙ writing_alike (to_write (slots_of items) free count) (memory_pages v) count (length v.pages) writing clean (sym (length-pages_of stored (slots_of items) free count) ∙ ap (λ (ps : List (Option (List ℕ))). length ps) pages)
-    (λ n. written_in_memory stored (slots_of items) free count n ∙ ap (λ (bs : List Bool). if get_or bs n false then at (pages_of stored (slots_of items) free count) n else None) memory ∙ ap (λ (ps : List (Option (List ℕ))). if get_or v.in_memory n false then at ps n else None) pages)
-
--- the guard stays where the pages in memory are allowed
-stays_allowed : (v : PagesView) (steps other : List Step) (old new : Guard) → steps ≡ other → old ≡ v.guard → (AllowsAll old steps → new ≡ old) → AllowsAll v.guard other → new ≡ v.guard
-stays_allowed v steps other old new same is passes all =
-    passes (subst (AllowsAll old) (sym same) (subst (λ (k : Guard). AllowsAll k other) (sym is) all)) ∙ is
-
-pub returns-in-Err-clause-allowed : goal.returns-in-Err-clause-allowed
-returns-in-Err-clause-allowed g c =
-    let all = steps_in c.args.self.now (g.S.StoreState.pages c.self.inside.store) _ c.self.inside.changed.items c.self.inside.free.keys c.self.inside.count c.args.writing.now c.args.clean.now c.deref.ensures.value (ap (λ (v : PagesView). v.pages) c.self.view_is) (ap (λ (v : PagesView). v.in_memory) c.self.view_is) in
-    stays_allowed c.args.self.now _ _ _ _ all (ap (λ (v : PagesView). v.guard) c.self.view_is) c.write_out-written.ensures.carries.guard
-
-pub returns-clause-allowed : goal.returns-clause-allowed
-returns-clause-allowed g c =
-    let all = steps_in c.args.self.now (g.S.StoreState.pages c.self.inside.store) _ c.self.inside.changed.items c.self.inside.free.keys c.self.inside.count c.args.writing.now c.args.clean.now c.deref.ensures.value (ap (λ (v : PagesView). v.pages) c.self.view_is) (ap (λ (v : PagesView). v.in_memory) c.self.view_is) in
-    stays_allowed c.args.self.now _ _ _ _ all (ap (λ (v : PagesView). v.guard) c.self.view_is) c.write_out-written.ensures.carries.guard
-
-pub returns-in-Err-clause-journal_err : goal.returns-in-Err-clause-journal_err
-returns-in-Err-clause-journal_err g c =
-    let all = steps_in c.args.self.now (g.S.StoreState.pages c.self.inside.store) _ c.self.inside.changed.items c.self.inside.free.keys c.self.inside.count c.args.writing.now c.args.clean.now c.deref.ensures.value (ap (λ (v : PagesView). v.pages) c.self.view_is) (ap (λ (v : PagesView). v.in_memory) c.self.view_is) in
-    subst (λ steps. NotesFront steps c.args.self.now.journal (g.S.StoreState.journal c.write_out-written.new.store)) all
-    (subst (λ old. NotesFront (writing_back (to_write (slots_of c.deref.result.now) c.self.inside.free.keys c.self.inside.count) c.self.inside.count c.args.writing.now c.args.clean.now) old (g.S.StoreState.journal c.write_out-written.new.store)) (ap (λ (v : PagesView). v.journal) c.self.view_is) c.in-Err.ensures.carries.journal_err)
-
-pub returns-clause-journal : goal.returns-clause-journal
-returns-clause-journal g c =
-    let all = steps_in c.args.self.now (g.S.StoreState.pages c.self.inside.store) _ c.self.inside.changed.items c.self.inside.free.keys c.self.inside.count c.args.writing.now c.args.clean.now c.deref.ensures.value (ap (λ (v : PagesView). v.pages) c.self.view_is) (ap (λ (v : PagesView). v.in_memory) c.self.view_is) in
-    c.in_default.ensures.carries.journal ∙ ap (λ old. noted old (writing_back (to_write (slots_of c.deref.result.now) c.self.inside.free.keys c.self.inside.count) c.self.inside.count c.args.writing.now c.args.clean.now)) (ap (λ (v : PagesView). v.journal) c.self.view_is)
-    ∙ ap (noted c.args.self.now.journal) all
-
-pub returns-clause-idle : goal.returns-clause-idle
-returns-clause-idle g c = search rules
+pub returns-clause-calls : goal.returns-clause-calls
+returns-clause-calls g c = record {
+  writes =
+      let many = calls_in c.args.self.now (g.S.StoreState.pages c.self.inside.store) _ c.self.inside.changed.items c.self.inside.free.keys c.self.inside.count c.deref.ensures.value (ap (λ (v : PagesView). v.pages) c.self.view_is) (ap (λ (v : PagesView). v.in_memory) c.self.view_is) in
+      let before = ap (λ (v : PagesView). v.writes) c.self.view_is in
+      c.in_default.ensures.carries.writes ∙ ap (λ old. counted_times old (6 + how_many (λ n. is_some (to_write (slots_of c.deref.result.now) c.self.inside.free.keys c.self.inside.count n)) c.self.inside.count)) before ∙ ap (λ k. counted_times c.args.self.now.writes (6 + k)) many;
+  writes_err = search rules;
+  failures = search rules;
+  journal =
+      let all = steps_in c.args.self.now (g.S.StoreState.pages c.self.inside.store) _ c.self.inside.changed.items c.self.inside.free.keys c.self.inside.count c.args.writing.now c.args.clean.now c.deref.ensures.value (ap (λ (v : PagesView). v.pages) c.self.view_is) (ap (λ (v : PagesView). v.in_memory) c.self.view_is) in
+      c.in_default.ensures.carries.journal ∙ ap (λ old. noted old (writing_back (to_write (slots_of c.deref.result.now) c.self.inside.free.keys c.self.inside.count) c.self.inside.count c.args.writing.now c.args.clean.now)) (ap (λ (v : PagesView). v.journal) c.self.view_is)
+      ∙ ap (noted c.args.self.now.journal) all;
+  journal_err = search rules;
+  guard =
+      let all = steps_in c.args.self.now (g.S.StoreState.pages c.self.inside.store) _ c.self.inside.changed.items c.self.inside.free.keys c.self.inside.count c.args.writing.now c.args.clean.now c.deref.ensures.value (ap (λ (v : PagesView). v.pages) c.self.view_is) (ap (λ (v : PagesView). v.in_memory) c.self.view_is) in
+      stays_allowed c.args.self.now _ _ _ _ all (ap (λ (v : PagesView). v.guard) c.self.view_is) c.write_out-written.ensures.carries.guard;
+}

@@ -29,9 +29,40 @@ returns-in-Ok-clause-ok g c = λ steady.
     let here = table_of c.self.inside.pages c.self.inside.tree c.self.inside.limit c.self.inside.faults c.self.inside.calls in
     set_contents here c.args.self.now c.change-changed.new.pages.pages c.args.key c.args.to c.change-changed.result c.self.view_is c.self.invariant c.change-changed.ensures.set steady c.in-Ok.tree c.in-Ok.before c.in-Ok.is c.change-changed.ensures.limits
 
-pub returns-in-Ok-clause-in_class : goal.returns-in-Ok-clause-in_class
-returns-in-Ok-clause-in_class g c = λ steady.
-    (changed g (goal.at.returns-in-Ok-clause-in_class g c).In-Ok c.note_set.new.self).holds (ap (λ (v : PagesView). v.steady) c.change-changed.ensures.stages.store ∙ ap (λ (t : TableView). t.pages.steady) c.self.view_is ∙ steady)
+pub returns-in-Ok-clause-tree : goal.returns-in-Ok-clause-tree
+returns-in-Ok-clause-tree g c = record {
+  in_class = λ steady.
+      (changed g (goal.at.returns-in-Ok-clause-tree g c).In-Ok c.note_set.new.self).holds (ap (λ (v : PagesView). v.steady) c.change-changed.ensures.stages.store ∙ ap (λ (t : TableView). t.pages.steady) c.self.view_is ∙ steady);
+  order = search rules;
+  store = search rules;
+  staged = search rules;
+  nothing_staged = search rules;
+  refused = search rules;
+}
+
+pub returns-in-Err-clause-tree : goal.returns-in-Err-clause-tree
+returns-in-Err-clause-tree g c = record {
+  in_class = search rules;
+  order = search rules;
+  store = search rules;
+  staged = search rules;
+  nothing_staged = search rules;
+  refused = search rules;
+}
+
+pub returns-in-Ok-clause-reads : goal.returns-in-Ok-clause-reads
+returns-in-Ok-clause-reads g c = record {
+  one_descent = search rules;
+  taking_reads = search rules;
+  most = search rules;
+}
+
+pub returns-in-Err-clause-reads : goal.returns-in-Err-clause-reads
+returns-in-Err-clause-reads g c = record {
+  one_descent = search rules;
+  taking_reads = search rules;
+  most = search rules;
+}
 
 pub returns-in-Ok-clause-full : goal.returns-in-Ok-clause-full
 returns-in-Ok-clause-full g c = λ steady puts absent full _.
