@@ -1,15 +1,14 @@
-"""The contracts stay readable: what several functions say is a word. A clause that is more than a word, one definition
-applied to what the function has, stands word for word at no more than five functions. A function of a crate's own, which is
-neither public nor a method of a trait, has at most ten clauses. A public one promises at most ten things, as `claim`, which
-tells of one count of its table more than `put` and `remove` with their nine, and has at most twelve clauses with what it asks
-for: `distribute`, `open` and `run_kept` ask for three to five. A method of a trait may have more, since its clauses stand in
-the place of the trait's, and so may a law, of which each clause is a statement by itself."""
+"""The contracts stay readable: what several functions say is a word. A clause that is more than a word, one definition applied
+to what the function has, stands word for word at no more than five functions. A function of a crate's own, which is neither
+public nor a method of a trait, has at most ten clauses. A public one promises at most nine things, and has at most twelve
+clauses with what it asks for: `distribute`, `open` and `run_kept` ask for three to five. A method of a trait may have more,
+since its clauses stand in the place of the trait's, and so may a law, of which each clause is a statement by itself."""
 import collections
 import pathlib
 import re
 import sys
 
-MOST_FUNCTIONS, MOST_OWN, MOST_PROMISES, MOST_PUBLIC = 5, 10, 10, 12
+MOST_FUNCTIONS, MOST_OWN, MOST_PROMISES, MOST_PUBLIC = 5, 10, 9, 12
 FUNCTION = re.compile(r"^(?P<indent> *)(?P<visibility>pub(?:\([a-z]+\))? )?(?:unsafe )?(?:extern \"C\" )?fn (?P<name>\w+)", re.M)
 CLAUSE = re.compile(r"\s*(?P<kind>ensures|requires)\s*(?:\w+\s*)?\{")
 BLOCK = re.compile(r"^(?:unsafe )?(?P<head>(?:pub )?trait |impl)(?P<rest>[^{]*)\{", re.M)

@@ -232,7 +232,12 @@ cmp -s b.rec before.rec || fail "the file isn't as it was"
 status=0
 (
     trap '' PIPE
-    { "$program" shell b.rec < lines 2> err || echo $? > status; } | true
+    # A pipe whose reader is gone when the first reply is written.
+    mkfifo gone
+    : < gone &
+    exec 4> gone
+    wait
+    "$program" shell b.rec < lines >&4 2> err || echo $? > status
 )
 case $(cat status) in 3) grep -q "^recfile: WriteFault " err || fail "faults $(cat err)" ;; *) fail "status $(cat status)" ;; esac
 

@@ -17,7 +17,7 @@ CRATES = ROOT / "crates"
 ROWS = "rows"
 ROWS_NEED = ["rec_types", "page_store", "btree_delete", "record_file", "command_text"]
 ROWS_FILES = {"lib.rt": ROOT / "tests" / "wrong_bodies.txt",
-              **{name: CRATES / "recfile" / "src" / name for name in ("call.rt", "commit_keeper.rt")}}
+              **{name: CRATES / "recfile" / "src" / name for name in ("call.rt", "commit_keeper.rt", "list_text.rt")}}
 
 
 class Mistake(NamedTuple):

@@ -15,7 +15,7 @@ use Rattle.btree_insert.specs.declared.tree.TreeFault.{TreeFault}
 use Rattle.btree_insert.specs.declared.tree.TreeFault.TheVariants.{Device as ReadFailed, Damaged as NoTreePage, Memory as NoMemory}
 use Rattle.btree_insert.specs.Faults.{AsksNoMemory}
 use Rattle.btree_insert.specs.Growth.{IsOutside}
-use Rattle.btree_insert.specs.Told.{TellsAll, TellsSome}
+use Rattle.rec_types.specs.Told.{TellsAll, TellsSome}
 use Rattle.btree_insert.specs.PageTrees.{Holds}
 use Rattle.btree_insert.specs.Contents.{lookup_in, set_in, contents_of}
 use Rattle.btree_insert.specs.Elements.{contents_at}

@@ -1,9 +1,10 @@
 -- What a sink was told of a tree, part by part.
-use Rattle.std.proofs.Common.{◌≡◌, ℕ, zero, suc, ◌<◌, List, [], ◌∷◌, ◌++◌, Result, Ok, Err, IfOk, OnOk, length, refl, ap, sym, ◌∙◌, subst, arith, append_assoc, length-append}
+use Rattle.std.proofs.Common.{◌≡◌, ℕ, zero, suc, ◌+◌, ◌<◌, List, [], ◌∷◌, ◌++◌, Result, Ok, Err, IfOk, OnOk, length, get_or, take, drop, refl, ap, sym, ◌∙◌, subst, arith, append_assoc, length-append}
+use Rattle.std.proofs.lemmas.List.{take-append-drop, take_more}
 use Rattle.btree_node.specs.declared.node.Node.{Node}
 use Rattle.btree_node.specs.Lists.{Element}
 use Rattle.btree_insert.specs.PageTrees.{Fan, Body}
-use Rattle.btree_insert.specs.Told.{Takes, TakesFront, TellsAll, TellsSome}
+use Rattle.rec_types.specs.Told.{Takes, TakesFront, TellsAll, TellsSome}
 use Rattle.btree_insert.proofs.SonsAroundLemmas.{Stands}
 
 abbrev pub Told : Type 1
@@ -80,3 +81,10 @@ stopped {F} told stops es r fault is taken = subst (λ (a : Result (Unit {0}) F)
 -- what is known where all was taken
 pub all_taken : {F : Type 0} (r : Result (Unit {0}) F) (A : Type 0) (done : Unit {0}) → r ≡ Ok done → OnOk r A → A
 all_taken {F} r A done is known = subst (λ (a : Result (Unit {0}) F). OnOk a A) is known
+
+-- the elements up to the next one, and with those behind it
+pub one_more : (es : List Element) (i : ℕ) (x : Element) → i < length es → x ≡ get_or es i x → take i es ++ x ∷ [] ≡ take (i + 1) es
+one_more es i x below is = ap (λ (y : Element). take i es ++ y ∷ []) is ∙ sym (take_more es i x below)
+
+pub all_of : (es : List Element) (i : ℕ) (x : Element) → i < length es → x ≡ get_or es i x → (take i es ++ x ∷ []) ++ drop (i + 1) es ≡ es
+all_of es i x below is = ap (λ (zs : List Element). zs ++ drop (i + 1) es) (one_more es i x below is) ∙ take-append-drop (i + 1) es

@@ -13,4 +13,3 @@ pub mod Elements
 pub mod Examples
 pub mod Spelt
 pub mod Steps
-pub mod Told

@@ -14,7 +14,7 @@ ghost use Rattle.btree_insert.specs.Elements.{elements_of, contents_at};
 ghost use Rattle.btree_insert.specs.Examples.{ax, by, cz, tree_of, three_pages, uneven_pages, shared_pages, equal_pages};
 ghost use Rattle.btree_insert.specs.Inserted.{Inserted};
 ghost use Rattle.btree_insert.specs.PageTrees.{Holds};
-ghost use Rattle.btree_insert.specs.Told.{TellsAll, TellsSome};
+ghost use Rattle.rec_types.specs.Told.{TellsAll, TellsSome};
 ghost use Rattle.btree_insert.specs.declared.tree.Tree.{Tree};
 ghost use Rattle.btree_insert.specs.declared.tree.TreeFault.{TreeFault};
 ghost use Rattle.btree_insert.specs.PagesGrown.{pages_change};

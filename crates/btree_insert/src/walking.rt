@@ -8,15 +8,14 @@ ghost use Rattle.btree_insert.specs.Reached.{Adds, Walks};
 ghost use Rattle.btree_node.specs.Layout.{IsSmallOrder};
 ghost use Rattle.btree_insert.specs.Sizes.{IsTree};
 ghost use Rattle.btree_insert.specs.Edits.{Reads, Looks};
-ghost use Rattle.btree_insert.specs.Told.{TellsAll, TellsSome};
+ghost use Rattle.rec_types.specs.Told.{Takes, TellsAll, TellsSome};
 
 use crate::bounds::Bounds;
 use crate::reading::{kind_of_level, read_into};
-use crate::sink::ElementSink;
 use crate::tree::{Tree, TreeFault};
 use btree_node::Node;
 use page_store::{Pages, Store};
-use rec_types::{Key, Memory, Record};
+use rec_types::{Key, Memory, Record, RecordSink};
 use std::alloc::Global;
 
 /// A sink that keeps the elements.
@@ -25,7 +24,7 @@ struct ElementList {
     elements: Vec<(Key, Record)>,
 }
 
-impl ElementSink<()> for ElementList {
+impl RecordSink<()> for ElementList {
     ghost use Rattle.std.specs.Prelude.{◌≡◌, ◌++◌};
     ghost use Rattle.std.proofs.Common.{rules};
     ghost use Rattle.std.proofs.lemmas.Grind.{common_steps};
@@ -36,10 +35,9 @@ impl ElementSink<()> for ElementList {
 
     ghost stops = { λ _ _ _ _ _ _. Unit {0} };
 
-    fn take(&mut self, _out: &mut (), elements: &[(Key, Record)]) -> Result<(), Memory> {
-        self.elements
-            .extend_from_slice(elements)
-            .map_err(|_| Memory)
+    fn take(&mut self, _out: &mut (), key: &Key, bytes: &[u8]) -> Result<(), Memory> {
+        let record = Record::new(bytes).unwrap();
+        self.elements.push((*key, record)).map_err(|_| Memory)
     }
 
     ghost told_none = { Prim.search (rules, common_steps) };
@@ -78,7 +76,7 @@ pub fn walk<S: Store>(
 /// Tells a sink all keys with their records, in order, on the conditions of `walk`; it reads each page of the tree once, and holds
 /// only those on a way down. Inside, the fault at which the sink stopped. Faults: Device; Damaged as `walk` answers it; the
 /// sink was told those before the page then. No page changes.
-pub fn tell<O, S: Store, K: ElementSink<O>>(
+pub fn tell<O, S: Store, K: RecordSink<O>>(
     pages: &mut Pages<S>,
     tree: &Tree,
     sink: &mut K,
@@ -119,9 +117,24 @@ struct Above {
     bounds: Bounds,
 }
 
+// Tells a sink elements. Fault: the sink's.
+fn tell_elements<O, K: RecordSink<O>>(
+    sink: &mut K,
+    out: &mut O,
+    elements: &[(Key, Record)],
+) -> Result<(), K::Fault>
+    ensures { Takes (λ xs. K.told sink.old out.old xs sink.new out.new)
+        (λ xs fault. K.stops sink.old out.old xs fault sink.new out.new) elements.now result }
+{
+    for (key, record) in elements {
+        sink.take(out, key, record.bytes())?;
+    }
+    Ok(())
+}
+
 /// Tells the elements of the tree below page n, which may have `left` pages.
 #[cycle(walking)]
-fn tell_below<O, S: Store, K: ElementSink<O>>(
+fn tell_below<O, S: Store, K: RecordSink<O>>(
     pages: &mut Pages<S>,
     sink: &mut K,
     out: &mut O,
@@ -163,7 +176,7 @@ fn tell_below<O, S: Store, K: ElementSink<O>>(
     )?;
     let elements = node.elements.as_slice();
     if above.height == 1 {
-        return Ok(sink.take(out, elements));
+        return Ok(tell_elements(sink, out, elements));
     }
     let below = Above {
         height: above.height - 1,
@@ -183,7 +196,7 @@ fn tell_below<O, S: Store, K: ElementSink<O>>(
 
 /// Tells the elements below the sons, and the elements between them.
 #[cycle(walking)]
-fn tell_sons<O, S: Store, K: ElementSink<O>>(
+fn tell_sons<O, S: Store, K: RecordSink<O>>(
     pages: &mut Pages<S>,
     sink: &mut K,
     out: &mut O,
@@ -226,7 +239,7 @@ fn tell_sons<O, S: Store, K: ElementSink<O>>(
     if let Err(fault) = tell_below(pages, sink, out, left, order, sons[0], &before)? {
         return Ok(Err(fault));
     }
-    if let Err(fault) = sink.take(out, &elements[..1]) {
+    if let Err(fault) = tell_elements(sink, out, &elements[..1]) {
         return Ok(Err(fault));
     }
     let behind = Above {

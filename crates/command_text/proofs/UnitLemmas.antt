@@ -1,13 +1,13 @@
 -- What the lines of a unit say.
-use Rattle.std.proofs.Common.{◌≡◌, ◌≢◌, ℕ, ◌+◌, ◌-◌, ◌*◌, ◌^◌, ◌<◌, ◌≤◌, Bool, true, false, cond, ◌&&◌, nat_le, nat_lt, ◌==◌, List, [], ◌∷◌, ◌++◌, length, map, filter, Option, Some, None, Ok, ok_or, codes, refl, sym, ap, ◌∙◌, arith}
+use Rattle.std.proofs.Common.{◌≡◌, ℕ, ◌^◌, ◌<◌, Bool, true, false, cond, ◌&&◌, nat_lt, List, [], ◌∷◌, ◌++◌, length, map, filter, Option, Some, None, Ok, ok_or, codes, refl, ap, ◌∙◌, arith}
 use Rattle.std.specs.Fmt.{decimal}
 use Rattle.std.specs.List.{All, list_all, flat_map}
 use Rattle.std.proofs.lemmas.Bool.Decides.{nat_tests}
 use Rattle.std.proofs.lemmas.Fmt.{decimal_is_IsNumeral, digits_decimal, digits_value-decimal}
-use Rattle.std.proofs.lemmas.List.{append_assoc, append-nil}
+use Rattle.std.proofs.lemmas.List.{append-nil}
 use Rattle.std.proofs.lemmas.List.Concat.{flat_map-append}
 use Rattle.std.proofs.lemmas.List.Folds.{list_all-append}
-use Rattle.std.proofs.lemmas.List.Elements.{All-nil, All-cons, All-head, All-tail}
+use Rattle.std.proofs.lemmas.List.Elements.{All-cons, All-head, All-tail}
 use Rattle.std.proofs.lemmas.List.Splits.{slice_split_at, slice_split_none}
 use Rattle.std.proofs.lemmas.Str.Parse.{IsDigitsTest, WeighsDigits, IsNumeralModel, numerals_by_weight}
 use Rattle.rec_types.specs.Key.{key_of}
@@ -19,7 +19,7 @@ use Rattle.command_text.specs.declared.command.Command.TheVariants as command
 use Rattle.command_text.specs.declared.command.LineFault.TheVariants.{BadNumber, KeyTooLong, RecordTooLong}
 use Rattle.command_text.specs.Dump.{CanBePut}
 use Rattle.command_text.specs.Examples.{tx}
-use Rattle.command_text.specs.Grammar.{Read, ◌>>=◌, read_as, or_fault, is_space, is_word, is_digit, value_of, number_of, number_at, tx_at, words_of, key_at, record_at, command_of, tx_command_of, line_of_words, line_of}
+use Rattle.command_text.specs.Grammar.{Read, ◌>>=◌, read_as, or_fault, is_space, is_word, is_digit, value_of, number_of, tx_at, words_of, key_at, record_at, command_of, tx_command_of, line_of_words, line_of}
 use Rattle.command_text.specs.Script.{entries_of}
 use Rattle.command_text.specs.Texts.{is_plain, escaped}
 use Rattle.command_text.specs.Units.{Write, write_text, write_line, commit_text, unit_lines, write_command, unit_commands, CanBeWritten, change_text, change_command}

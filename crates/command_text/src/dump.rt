@@ -1,6 +1,7 @@
-ghost use Rattle.std.specs.Prelude.{◌≡◌, ◌<◌, ◌++◌, List, IfOk, OnOk, codes};
+ghost use Rattle.std.specs.Prelude.{◌≡◌, ◌<◌, ◌≤◌, ◌++◌, List, IfOk, OnOk, codes, length};
 ghost use Rattle.std.specs.List.{All, flat_map};
 ghost use Rattle.std.specs.String.{string_bytes};
+ghost use Rattle.rec_types.specs.Widths.{widest_record};
 ghost use Rattle.command_text.specs.Dump.{dump_text, dump_commands, put_line, AreBytes, CanBePut};
 ghost use Rattle.command_text.specs.Script.{entries_of};
 ghost use Rattle.command_text.specs.Texts.{escaped, line};
@@ -32,16 +33,16 @@ pub fn dump_foot() -> &'static str
 }
 
 /// Appends the line that puts a record, whatever bytes it has. Fault: that memory is refused; of the line any front is there then.
-pub fn push_put(text: &mut String, entry: &(Key, Record)) -> Result<(), AllocError>
+pub fn push_put(text: &mut String, key: &Key, value: &[u8]) -> Result<(), AllocError>
+    requires { length value.now ≤ widest_record }
     ensures text { OnOk result
-        (string_bytes text.new ≡ string_bytes text.old ++ put_line entry.now) }
-    ensures put { OnOk result (CanBePut entry.now) }
+        (string_bytes text.new ≡ string_bytes text.old ++ put_line (key.now, value.now)) }
+    ensures put { OnOk result (CanBePut (key.now, value.now)) }
 {
-    let (key, value) = entry;
     text.push_str("put 1 ")?;
     push_bytes(text, key.bytes())?;
     text.push_str(" =")?;
-    push_bytes(text, value.bytes())?;
+    push_bytes(text, value)?;
     text.push_str("\n")
 }
 
@@ -52,7 +53,7 @@ fn push_puts(text: &mut String, records: &[(Key, Record)]) -> Result<(), AllocEr
     ensures puts { OnOk result (All CanBePut records.now) }
 {
     for entry in records {
-        push_put(text, entry)?;
+        push_put(text, &entry.0, entry.1.bytes())?;
     }
     Ok(())
 }

@@ -15,5 +15,5 @@ pub use command::{Command, LineFault};
 pub use dump::{dump_foot, dump_head, push_put, write_dump};
 pub use list::{EntryList, KeyList};
 pub use reading::{LONGEST_LINE, read_bounded_line, read_line};
-pub use reply::{Reply, Unkept, append_reply, write_reply};
+pub use reply::{Reply, Unkept, append_reply, push_entry, push_list_end, write_reply};
 pub use unit::write_unit;

@@ -2,7 +2,7 @@ ghost use Rattle.std.specs.Prelude.{◌≡◌, ◌++◌, not, IfOk, OnOk};
 ghost use Rattle.std.specs.List.{flat_map, list_any};
 ghost use Rattle.std.specs.String.{string_bytes};
 ghost use Rattle.command_text.specs.Refusals.{is_refusal};
-ghost use Rattle.command_text.specs.Texts.{is_escaped, escaped, cause_text, unkept_text, refusal_text, fault_text, number_text, record_text, old_text, owner_text, entry_line, key_line, entries_text, keys_text, reply_text, text_of};
+ghost use Rattle.command_text.specs.Texts.{is_escaped, escaped, line, cause_text, unkept_text, refusal_text, fault_text, number_text, record_text, old_text, owner_text, entry_line, key_line, entries_text, keys_text, reply_text, text_of};
 
 use crate::{EntryList, KeyList, LineFault};
 use percent_encoding::{AsciiSet, CONTROLS, ascii_set, ascii_str, percent_encode};
@@ -207,15 +207,32 @@ fn push_owner(text: &mut String, owner: Option<TxId>) -> Result<(), AllocError>
     }
 }
 
-fn push_entry(text: &mut String, entry: &Entry) -> Result<(), AllocError>
-    ensures { OnOk result (string_bytes text.new ≡ string_bytes text.old ++ entry_line entry.now) }
+/// Appends the line of a list that tells of a record at its key, and who owns that. Fault: that memory is refused; of the line
+/// any front is there then. It goes into its callers, so that what stands between the words is stored and no call copies it.
+#[inline(always)]
+pub fn push_entry(
+    text: &mut String,
+    key: &Key,
+    value: &[u8],
+    owner: Option<TxId>,
+) -> Result<(), AllocError>
+    ensures { OnOk result (string_bytes text.new ≡ string_bytes text.old
+        ++ entry_line (record { key = key.now; value = value.now; owner = owner })) }
 {
     text.push_str("- ")?;
-    push_escaped(text, entry.key.bytes())?;
+    push_escaped(text, key.bytes())?;
     text.push_str(" =")?;
-    push_escaped(text, entry.value.bytes())?;
-    push_owner(text, entry.owner)?;
+    push_escaped(text, value)?;
+    push_owner(text, owner)?;
     text.push_str("\n")
+}
+
+/// Appends the line behind a list, which tells how many lines that has. Fault: that memory is refused.
+pub fn push_list_end(text: &mut String, count: usize) -> Result<(), AllocError>
+    ensures { OnOk result
+        (string_bytes text.new ≡ string_bytes text.old ++ line (number_text count)) }
+{
+    write!(text, "ok {count}\n")
 }
 
 fn push_lines_of_entries(text: &mut String, entries: &[Entry]) -> Result<(), AllocError>
@@ -223,7 +240,7 @@ fn push_lines_of_entries(text: &mut String, entries: &[Entry]) -> Result<(), All
         (string_bytes text.new ≡ string_bytes text.old ++ flat_map entry_line entries.now) }
 {
     for entry in entries {
-        push_entry(text, entry)?;
+        push_entry(text, &entry.key, entry.value.bytes(), entry.owner)?;
     }
     Ok(())
 }

@@ -6,6 +6,7 @@ pub mod TakeBackLemmas
 pub mod MapLemmas
 pub mod NumberOrder
 pub mod Padding
+pub mod SinkLemmas
 pub mod Sizes
 pub mod SlotLemmas
 pub mod LogUseLemmas

@@ -21,4 +21,5 @@ pub mod SortedFields
 pub mod Table
 pub mod Tags
 pub mod Taken
+pub mod Told
 pub mod Widths

@@ -6,11 +6,12 @@ ghost use Rattle.indexmap.specs.IndexMap.{IsUnique, keys, index_map_len};
 ghost use Rattle.rec_types.specs.LimitBounds.{most_records};
 ghost use Rattle.rec_types.specs.Slots.{AreInPlace, place_of, record_in, short_in, slot_at};
 ghost use Rattle.rec_types.specs.Sorted.{pair_at, same_bytes};
+ghost use Rattle.rec_types.specs.Told.{Takes};
 ghost use Rattle.rec_types.specs.declared.slot.Slot.TheVariants.{Long};
 
 use crate::record::ShortRecord;
 use crate::slot::{Slot, short_record};
-use crate::{Key, Memory, Record};
+use crate::{Key, Memory, Record, RecordSink};
 use indexmap::IndexMap;
 use std::alloc::Global;
 use std::marker::Model;
@@ -75,6 +76,25 @@ impl CompactMap {
             Slot::Long(at) => list.push((*key, self.long[*at as usize].1))?,
         }
         Ok(())
+    }
+
+    /// Tells a sink the record at an index, with its key. Fault: the sink's.
+    pub(crate) fn tell_at<O, K: RecordSink<O>>(
+        &self,
+        index: usize,
+        sink: &mut K,
+        out: &mut O,
+    ) -> Result<(), K::Fault>
+        requires { index < length self.now }
+        ensures { Takes (λ es. K.told sink.old out.old es sink.new out.new)
+            (λ es fault. K.stops sink.old out.old es fault sink.new out.new)
+            (pair_at self.now index ∷ []) result }
+    {
+        let (key, slot) = self.slots.get_index(index).unwrap();
+        match slot {
+            Slot::Short(record) => sink.take(out, key, record.bytes()),
+            Slot::Long(at) => sink.take(out, key, self.long[*at as usize].1.bytes()),
+        }
     }
 
     /// The record at the key.

@@ -5,8 +5,9 @@ ghost use Rattle.rec_types.specs.Flaky.{fails_next, called, failures_of};
 ghost use Rattle.rec_types.specs.Answered.{Answered};
 ghost use Rattle.rec_types.specs.Calls.{no_calls, with_get, with_set, with_list};
 ghost use Rattle.rec_types.specs.Table.{NeverFull, is_device, counted};
+ghost use Rattle.rec_types.specs.Told.{TellsUntil, TellsSome};
 
-use crate::{Key, NO_CALLS, Record, Table, TableCalls, TableFault, TableState};
+use crate::{Key, NO_CALLS, Record, RecordSink, Table, TableCalls, TableFault, TableState};
 use std::marker::Model;
 
 /// A table whose device fails at chosen calls of `set`. Everything else it hands on to the table below it. The
@@ -163,6 +164,31 @@ impl<T: Table> Table for FlakyTable<T> {
     {
         self.calls.note_list();
         self.inner.entries()
+    }
+
+    /// Tells a sink the records in key order. Inside, the fault at which the sink stopped. Faults: those of the table below.
+    fn tell<O, K: RecordSink<O>>(
+        &mut self,
+        sink: &mut K,
+        out: &mut O,
+    ) -> Result<Result<(), K::Fault>, TableFault>
+        ensures told { IsTrue (T.sound self.old.inner)
+            → TellsUntil (λ es. K.told sink.old out.old es sink.new out.new)
+            (λ es fault. K.stops sink.old out.old es fault sink.new out.new)
+            (maps.entries (T.contents self.old.inner)) result }
+        ensures some { TellsSome (λ es. K.told sink.old out.old es sink.new out.new)
+            (λ es fault. K.stops sink.old out.old es fault sink.new out.new) result }
+        ensures same { T.contents self.new.inner ≡ T.contents self.old.inner }
+        ensures no_room { NeverFull result }
+        ensures answered { Answered ⟦<FlakyTable<T> as TableState>⟧ self.old result self.new }
+        ensures calls { self.new.calls ≡ with_list self.old.calls }
+        ensures inner { (T.calls self.new.inner ≡ with_list (T.calls self.old.inner))
+            × (T.device_failures self.new.inner
+            ≡ counted (T.device_failures self.old.inner) (is_device result)) }
+        ensures rest { self.new ≡ called self.old self.new.inner self.new.calls false }
+    {
+        self.calls.note_list();
+        self.inner.tell(sink, out)
     }
 
     fn count(&self) -> u32 {

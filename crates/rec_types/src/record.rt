@@ -173,6 +173,14 @@ impl ShortRecord {
         }
     }
 
+    /// The bytes of the record.
+    pub(crate) fn bytes(&self) -> &[u8]
+        ensures value { result.now ≡ self.now }
+        ensures most { length self.now ≤ short_width }
+    {
+        &self.bytes[..self.len as usize]
+    }
+
     /// The record in full.
     pub(crate) fn record(&self) -> Record
         ensures { result ≡ self.now }

@@ -6,10 +6,13 @@ ghost use Rattle.rec_types.specs.Answered.{Answered};
 ghost use Rattle.rec_types.specs.Calls.{no_calls, with_set};
 ghost use Rattle.rec_types.specs.Table.{counted, is_device};
 ghost use Rattle.rec_types.specs.Sorted.{pair_at};
+ghost use Rattle.rec_types.specs.Told.{Takes};
 
 use crate::compact_map::CompactMap;
 use crate::key_order::order_of;
-use crate::{Key, Limits, Memory, NO_CALLS, Record, Table, TableCalls, TableFault, TableState};
+use crate::{
+    Key, Limits, Memory, NO_CALLS, Record, RecordSink, Table, TableCalls, TableFault, TableState,
+};
 use std::alloc::Global;
 use std::marker::Model;
 
@@ -62,6 +65,28 @@ impl SortedTable {
             refusals: 0,
             calls: NO_CALLS,
         }
+    }
+
+    // Tells a sink the records in the order of their keys. Inside, the fault at which the sink stopped. Fault: Memory.
+    fn tell_in_order<O, K: RecordSink<O>>(
+        &mut self,
+        sink: &mut K,
+        out: &mut O,
+    ) -> Result<Result<(), K::Fault>, Memory>
+        ensures ok { IfOk result (Takes (λ es. K.told sink.old out.old es sink.new out.new)
+            (λ es fault. K.stops sink.old out.old es fault sink.new out.new)
+            (maps.entries self.old.contents)) }
+        ensures err { OnErr result ((sink.new ≡ sink.old) × (out.new ≡ out.old)) }
+        ensures same { self.new ≡ self.old }
+    {
+        put_in_order(
+            self.alloc,
+            &mut self.places,
+            self.records.keys(),
+            self.in_order,
+        )?;
+        self.in_order = true;
+        Ok(tell_places(&self.records, &self.places, sink, out))
     }
 
     // The records in the order of their keys. Fault: Memory.
@@ -222,6 +247,21 @@ impl Table for SortedTable {
         }
     }
 
+    fn tell<O, K: RecordSink<O>>(
+        &mut self,
+        sink: &mut K,
+        out: &mut O,
+    ) -> Result<Result<(), K::Fault>, TableFault> {
+        self.calls.note_list();
+        match self.tell_in_order(sink, out) {
+            Ok(taken) => Ok(taken),
+            Err(_) => {
+                self.refusals = self.refusals.saturating_add(1);
+                Err(TableFault::Memory)
+            }
+        }
+    }
+
     fn count(&self) -> u32 {
         self.records.len() as u32
     }
@@ -259,4 +299,22 @@ fn copied(alloc: Global, records: &CompactMap, places: &[u32]) -> Result<Vec<(Ke
         records.push_at(*place as usize, &mut list)?;
     }
     Ok(list)
+}
+
+// Tells a sink the records at the places. Fault: the sink's.
+fn tell_places<O, K: RecordSink<O>>(
+    records: &CompactMap,
+    places: &[u32],
+    sink: &mut K,
+    out: &mut O,
+) -> Result<(), K::Fault>
+    requires { All (λ place. place < length records.now) places.now }
+    ensures { Takes (λ es. K.told sink.old out.old es sink.new out.new)
+        (λ es fault. K.stops sink.old out.old es fault sink.new out.new)
+        (map (pair_at records.now) places.now) result }
+{
+    for place in places {
+        records.tell_at(*place as usize, sink, out)?;
+    }
+    Ok(())
 }

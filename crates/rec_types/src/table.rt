@@ -4,8 +4,9 @@ ghost use Rattle.rec_types.specs.Contents.{set_to};
 ghost use Rattle.rec_types.specs.Answered.{Answered};
 ghost use Rattle.rec_types.specs.Calls.{with_get, with_set, with_list};
 ghost use Rattle.rec_types.specs.Table.{NeverFull, is_device};
+ghost use Rattle.rec_types.specs.Told.{TellsUntil, TellsSome};
 
-use crate::{Key, Record, TableState};
+use crate::{Key, Record, RecordSink, TableState};
 use thiserror::Error;
 
 /// Why a table refused a call. Every fault leaves the table's records unchanged.
@@ -64,6 +65,24 @@ pub trait Table: TableState + Drop {
     fn entries(&mut self) -> Result<Vec<(Key, Record)>, TableFault>
         ensures value { IsTrue (Self.sound self.old)
             → IfOk result (λ records. records.items ≡ maps.entries (Self.contents self.old)) }
+        ensures same { Self.contents self.new ≡ Self.contents self.old }
+        ensures no_room { NeverFull result }
+        ensures answered { Answered Self.TableState self.old result self.new }
+        ensures calls { Self.calls self.new ≡ with_list (Self.calls self.old) };
+
+    /// Tells a sink the records in key order. Inside, the fault at which the sink stopped. Faults: Device, Damaged, Memory; the
+    /// sink was told some of the records then, from the first on.
+    fn tell<O, K: RecordSink<O>>(
+        &mut self,
+        sink: &mut K,
+        out: &mut O,
+    ) -> Result<Result<(), K::Fault>, TableFault>
+        ensures told { IsTrue (Self.sound self.old)
+            → TellsUntil (λ es. K.told sink.old out.old es sink.new out.new)
+            (λ es fault. K.stops sink.old out.old es fault sink.new out.new)
+            (maps.entries (Self.contents self.old)) result }
+        ensures some { TellsSome (λ es. K.told sink.old out.old es sink.new out.new)
+            (λ es fault. K.stops sink.old out.old es fault sink.new out.new) result }
         ensures same { Self.contents self.new ≡ Self.contents self.old }
         ensures no_room { NeverFull result }
         ensures answered { Answered Self.TableState self.old result self.new }

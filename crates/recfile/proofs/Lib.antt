@@ -23,6 +23,7 @@ pub mod SpelledLemmas
 mod CommitCallLemmas
 pub mod CopiedLemmas
 pub mod FillingLemmas
+pub mod ListLemmas
 pub mod LogLemmas
 pub mod LogOverLemmas
 pub mod SettlingLemmas

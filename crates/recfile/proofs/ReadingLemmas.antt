@@ -4,7 +4,7 @@ use Rattle.std.specs.Io.KnownBytes.{Appends}
 use Rattle.rec_types.specs.declared.table.TableFault.{TableFault}
 use Rattle.rec_types.specs.declared.table.TableFault.TheVariants as listing
 use Rattle.record_texts.specs.declared.form.Form.{Form}
-use Rattle.btree_insert.specs.Told.{TakesFront}
+use Rattle.rec_types.specs.Told.{TakesFront}
 use Rattle.recfile.specs.Dumped.{CanBeOpened, Dumps, IsDumpFault, IsOfListing, IsOutsideFile, IsPartWritten, IsSilent, IsSilentInside, ReadingStops, text_in}
 use Rattle.recfile.specs.FileFaults.{fault_of_listing}
 use Rattle.recfile.specs.Spelled.{IsOfText, PartWritten, Stops, Took, foot_in, head_in}

@@ -1,17 +1,17 @@
 -- The text of a dump piece by piece.
-use Rattle.std.proofs.Common.{◌≡◌, ℕ, ◌<◌, ◌+◌, false, codes, get_or, List, [], ◌∷◌, ◌++◌, Option, Some, None, length, take, drop, refl, sym, ap, subst, ◌∙◌, arith, append-nil, append_assoc, length-append}
+use Rattle.std.proofs.Common.{◌≡◌, ℕ, ◌<◌, false, codes, List, [], ◌∷◌, ◌++◌, Option, Some, None, length, take, drop, refl, sym, ap, subst, ◌∙◌, arith, append-nil, append_assoc, length-append}
 use Rattle.std.specs.Io.KnownBytes.{Appends}
 use Rattle.std.specs.Option.{is_some}
 use Rattle.std.proofs.KnownBytes.{Appends-nil, Appends-trans}
 use Rattle.std.proofs.lemmas.Grind.{flat_map-append}
-use Rattle.std.proofs.lemmas.List.{take-append-drop, length-drop, take_more}
+use Rattle.std.proofs.lemmas.List.{take-append-drop, length-drop}
 use Rattle.std.proofs.lemmas.List.Concat.{flat_map-cons}
 use Rattle.command_text.specs.Dump.{put_text}
 use Rattle.record_texts.specs.Forms.{before, between, behind, field_text, records_text}
 use Rattle.record_texts.specs.declared.form.Form.{Form}
 use Rattle.record_texts.specs.declared.form.Form.TheVariants.{Tsv, Csv, Json}
 use Rattle.recfile.specs.Dumped.{AreSaidIn, Dumps, IsPartWritten, text_in}
-use Rattle.recfile.specs.Spelled.{Records, SpellsLines, PartWritten, IsOfText, Took, Stops, head_in, line_in, lines_in, foot_in, part_longer, took_on, stops_on, stops_before}
+use Rattle.recfile.specs.Spelled.{Records, SpellsLines, PartWritten, IsOfText, Took, Stops, head_in, line_in, lines_in, foot_in, part_longer}
 use Rattle.recfile.specs.declared.dump.DumpFault.{DumpFault}
 use Rattle.recfile.specs.declared.dump_text.DumpText.{DumpText}
 
@@ -160,13 +160,3 @@ foot_some (Some form) none = absurd (cc none)
 
 pub foot_in_part : (form : Option Form) (held : Option (List ℕ)) (waits : List ℕ) → is_some form ≡ false → PartWritten held held (waits ++ foot_in form)
 foot_in_part form held waits none = let some = foot_some form none in part_none held (waits ++ foot_in form) (omega (arith, some, length-append waits (foot_in form)))
-
--- one record more
-pub took_next : (a b c : DumpText) (p q r : Option (List ℕ)) (es : Records) (i : ℕ) (x : List ℕ × List ℕ) → i < length es → x ≡ get_or es i x → Took a p (take i es) b q → Took b q (x ∷ []) c r → Took a p (take (i + 1) es) c r
-took_next a b c p q r es i x within is one two =
-    subst (λ (fs : Records). Took a p fs c r) (ap (λ (y : List ℕ × List ℕ). take i es ++ y ∷ []) is ∙ sym (take_more es i x within)) (took_on a b c p q r (take i es) (x ∷ []) one two)
-
-pub stops_there : (a b : DumpText) (p q r : Option (List ℕ)) (es : Records) (i : ℕ) (x : List ℕ × List ℕ) (fault : DumpFault) → i < length es → x ≡ get_or es i x → Took a p (take i es) b q → Stops b q (x ∷ []) fault r → Stops a p es fault r
-stops_there a b p q r es i x fault within is one stop =
-    subst (λ (fs : Records). Stops a p fs fault r) (ap (λ (y : List ℕ × List ℕ). (take i es ++ y ∷ []) ++ drop (i + 1) es) is ∙ ap (λ (fs : Records). fs ++ drop (i + 1) es) (sym (take_more es i x within)) ∙ take-append-drop (i + 1) es)
-    (stops_before a p r (take i es ++ x ∷ []) (drop (i + 1) es) fault (stops_on a b p q r (take i es) (x ∷ []) fault one stop))

@@ -7,6 +7,7 @@ pub mod FileFaults
 pub mod Dumped
 pub mod Spelled
 pub mod Kept
+pub mod Listed
 pub mod LogKeeping
 pub mod Overlaid
 pub mod SessionCommits

@@ -7,9 +7,11 @@ ghost use Rattle.recfile.specs.Run.{CommandRan, CommandTold, HasReply, LineTold,
 ghost use Rattle.record_file.specs.Runs.{seen_as};
 
 use crate::commit_keeper::CommitKeeper;
-use command_text::{Command, EntryList, KeyList, LineFault, Reply, Unkept, append_reply};
+use crate::list_text::ListText;
+use command_text::{Command, KeyList, LineFault, Reply, Unkept, append_reply, push_list_end};
 use rec_types::{Key, Memory, Record, Table, TxId};
 use record_file::{KeepFault, KeeperFault, RecordFile};
+use std::mem::replace;
 
 // Puts the text of a reply in the place of what a text has, and answers whether it is a refusal. Fault: Memory.
 #[inline(never)]
@@ -159,7 +161,26 @@ fn list<T: Table>(text: &mut String, file: &mut RecordFile<T>) -> Result<bool, M
     ensures { CommandTold T.TableState (SameOrigin T.TableState) file.old (Ok commands.List) result
         (string_bytes text.new) file.new }
 {
-    tell(text, &Reply::List(file.entries().map(EntryList::new)))
+    let alloc = *text.allocator();
+    text.clear();
+    let mut list = ListText {
+        text: replace(text, String::new(alloc)),
+        count: 0,
+    };
+    let told = file.tell(&mut list);
+    let ListText {
+        text: spelled,
+        count,
+    } = list;
+    *text = spelled;
+    match told {
+        Ok(taken) => {
+            taken?;
+            push_list_end(text, count)?;
+            Ok(false)
+        }
+        Err(fault) => tell(text, &Reply::List(Err(fault))),
+    }
 }
 
 fn keys<T: Table>(text: &mut String, file: &mut RecordFile<T>, tx: TxId) -> Result<bool, Memory>

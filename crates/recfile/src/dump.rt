@@ -18,7 +18,7 @@ use btree_node::Header;
 use command_text::write_dump;
 use page_rescue::{RescueFault, rescue_pages};
 use page_store::Store;
-use rec_types::{Key, Limits, Memory, Record};
+use rec_types::{Key, Limits, Memory, Record, Table};
 use record_texts::Form;
 use std::alloc::{AllocError, Global};
 use std::io::Write;
@@ -102,7 +102,7 @@ fn dump_table<S: Store, W: Write>(
         ≡ counted table.old.pages.failures (is_device_dump result) }
 {
     let mut text = DumpText::begin(alloc, form)?;
-    match table.tell_all(&mut text, out) {
+    match table.tell(&mut text, out) {
         Ok(taken) => match taken {
             Ok(()) => text.end(out),
             Err(fault) => Err(fault),

@@ -1,13 +1,13 @@
-ghost use Rattle.std.specs.Prelude.{◌≡◌, ◌<◌, ◌++◌, List, [], ◌∷◌, IfOk, OnOk, IfErr, MatchResult};
+ghost use Rattle.std.specs.Prelude.{◌≡◌, ◌<◌, ◌≤◌, ◌++◌, List, [], ◌∷◌, IfOk, OnOk, IfErr, length};
 ghost use Rattle.std.specs.Io.KnownBytes.{Appends};
+ghost use Rattle.rec_types.specs.Widths.{widest_record};
 ghost use Rattle.recfile.specs.Dumped.{AreSaidIn};
 ghost use Rattle.recfile.specs.Spelled.{IsOfText, PartWritten, SpellsLines, Stops, Took, foot_in, head_in, line_in, lines_in};
 
 use crate::dump::DumpFault;
 use crate::script::write_text;
-use btree_insert::ElementSink;
 use command_text::{dump_foot, dump_head, push_put};
-use rec_types::{Key, Record};
+use rec_types::{Key, RecordSink};
 use record_texts::{Form, push_record};
 use std::alloc::{AllocError, Global};
 use std::io::Write;
@@ -49,17 +49,18 @@ impl DumpText {
     }
 
     // Spells the line of a record behind what waits.
-    fn push_line(&mut self, entry: &(Key, Record)) -> Result<(), AllocError>
+    fn push_line(&mut self, key: &Key, value: &[u8]) -> Result<(), AllocError>
+        requires { length value.now ≤ widest_record }
         ensures form { self.new.form ≡ self.old.form }
-        ensures text { OnOk result
-            (self.new.waiting.items ≡ self.old.waiting.items ++ line_in self.old.form entry.now) }
-        ensures said { OnOk result (AreSaidIn self.old.form (entry.now ∷ [])) }
+        ensures text { OnOk result (self.new.waiting.items
+            ≡ self.old.waiting.items ++ line_in self.old.form (key.now, value.now)) }
+        ensures said { OnOk result (AreSaidIn self.old.form ((key.now, value.now) ∷ [])) }
     {
         match self.form {
-            Some(form) => push_record(&mut self.waiting, form, entry),
+            Some(form) => push_record(&mut self.waiting, form, key, value),
             None => {
                 self.line.clear();
-                push_put(&mut self.line, entry)?;
+                push_put(&mut self.line, key, value)?;
                 self.waiting.extend_from_slice(self.line.as_bytes())
             }
         }
@@ -82,20 +83,6 @@ impl DumpText {
         }
     }
 
-    // Spells a record, and writes what waits where that is much.
-    fn put<W: Write>(&mut self, out: &mut W, entry: &(Key, Record)) -> Result<(), DumpFault>
-        ensures { MatchResult result
-            (λ _. Took self.old (W.contents out.old) (entry.now ∷ []) self.new (W.contents out.new))
-            (λ fault. Stops self.old (W.contents out.old) (entry.now ∷ []) fault
-            (W.contents out.new)) }
-    {
-        self.push_line(entry)?;
-        if self.waiting.len() < WAITING_ROOM {
-            return Ok(());
-        }
-        self.send(out)
-    }
-
     /// Writes what waits, and the text behind the records. Faults: Memory, Write.
     pub(crate) fn end<W: Write>(&mut self, out: &mut W) -> Result<(), DumpFault>
         ensures whole { OnOk result (Appends (W.contents out.old) (W.contents out.new)
@@ -111,7 +98,7 @@ impl DumpText {
     }
 }
 
-impl<W: Write> ElementSink<W> for DumpText {
+impl<W: Write> RecordSink<W> for DumpText {
     ghost use Rattle.recfile.specs.Spelled.{Took, Stops, stops_before, stops_on, took_none, took_on};
 
     type Fault = DumpFault;
@@ -121,11 +108,13 @@ impl<W: Write> ElementSink<W> for DumpText {
     ghost stops = { λ old out es fault _ behind. Stops old (W.contents out) es fault
         (W.contents behind) };
 
-    fn take(&mut self, out: &mut W, elements: &[(Key, Record)]) -> Result<(), DumpFault> {
-        for entry in elements {
-            self.put(out, entry)?;
+    /// Spells a record, and writes what waits where that is much.
+    fn take(&mut self, out: &mut W, key: &Key, bytes: &[u8]) -> Result<(), DumpFault> {
+        self.push_line(key, bytes)?;
+        if self.waiting.len() < WAITING_ROOM {
+            return Ok(());
         }
-        Ok(())
+        self.send(out)
     }
 
     ghost told_none = { λ text out. took_none text (W.contents out) };

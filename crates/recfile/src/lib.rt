@@ -15,6 +15,7 @@ mod kept_example;
 mod kept_file;
 pub mod laws;
 mod limits;
+mod list_text;
 mod loading;
 mod log_head;
 mod log_keeper;

@@ -1,6 +1,6 @@
 use crate::journal::JournalStore;
 use btree_delete::TreeTable;
-use rec_types::{Key, Record, SortedTable, Table, TableFault, TableState};
+use rec_types::{Key, Record, RecordSink, SortedTable, Table, TableFault, TableState};
 
 /// A table in memory, or in the pages of a file.
 #[derive(Drop)]
@@ -56,6 +56,17 @@ impl Table for FileTable {
         match self {
             FileTable::Memory(table) => table.entries(),
             FileTable::Paged(table) => table.entries(),
+        }
+    }
+
+    fn tell<O, K: RecordSink<O>>(
+        &mut self,
+        sink: &mut K,
+        out: &mut O,
+    ) -> Result<Result<(), K::Fault>, TableFault> {
+        match self {
+            FileTable::Memory(table) => table.tell(sink, out),
+            FileTable::Paged(table) => table.tell(sink, out),
         }
     }
 

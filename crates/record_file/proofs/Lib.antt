@@ -9,6 +9,7 @@ pub mod FaultLemmas
 pub mod RollbackLemmas
 pub mod TableCallLemmas
 pub mod LogGrowthLemmas
+pub mod OwnedLemmas
 pub mod OwnerLemmas
 pub mod CallKindLemmas
 pub mod CommitLemmas

@@ -180,6 +180,16 @@ module _ {T : Type 0} (t : Ghosts T) (old new : OpenFile T) where
       ((refl, refl), record { step = λ sound few fewer. (rolled, table.opening sound, ends_by (cause_by resume_refusal answer) _ _ _ _ few fewer table.device memory (damaged sound)); rolled = rolled; opening = table.opening; refused = refused_seen t old new (resuming_refusal old.file tx.0) (refusal_by resume_refusal answer) refused; damages = table.damages; asks = asks })
       (spared (resuming_refusal old.file tx.0) (refusal_by resume_refusal answer) refused)
 
+  -- a list, as it goes to a sink
+  pub list_made : (answer : Result (List Entry) EntriesFault)
+      → (IsTrue (t.sound old.table) → t.device_failures old.table < greatest_count → EntriesStep old.file (rose (t.device_failures old.table) (t.device_failures new.table)) answer new.file)
+      → IfOk answer (TellOwners old.file)
+      → LeavesTable t old (cause_by entries_refusal answer) new → AsksMemory (t.memory_refusals old.table) (cause_by entries_refusal answer) (t.memory_refusals new.table) → NeverDamaged (t.sound old.table) (cause_by entries_refusal answer)
+      → t.calls new.table ≡ with_list (t.calls old.table)
+      → Made t old (Entries answer) new
+  list_made answer step owners table memory damaged asks =
+      leaves_made (Entries answer) memory.0 table memory.1 damaged ((refl, memory.2), record { owners = owners; step = step; same = table.same; damages = table.damages; asks = asks }) tt
+
   pub entries_made : (answer : Result (Vec Entry) EntriesFault)
       → (IsTrue (t.sound old.table) → t.device_failures old.table < greatest_count → EntriesStep old.file (rose (t.device_failures old.table) (t.device_failures new.table)) (listed answer) new.file)
       → IfOk answer (λ entries. TellOwners old.file entries.items)

@@ -1,5 +1,6 @@
 pub mod Abstract
 pub mod Outside
+pub mod OwnedRecords
 pub mod Steps
 pub mod TableCalls
 pub mod Refusals

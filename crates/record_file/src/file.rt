@@ -8,6 +8,7 @@ ghost use Rattle.tx_log.specs.Written.{own, writes};
 
 mod changes;
 mod looks;
+mod owned;
 mod refusals;
 mod rollbacks;
 

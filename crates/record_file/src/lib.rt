@@ -2,6 +2,7 @@
 #![tactic(auto)]
 
 mod call;
+mod entry_sink;
 mod fault;
 mod file;
 mod keeper;
@@ -9,6 +10,7 @@ pub mod laws;
 mod refusal;
 
 pub use call::{Answer, AnswerLost, Call, make_call, run_calls};
+pub use entry_sink::EntrySink;
 pub use fault::{
     AbortFault, Cause, ChangesFault, ClaimFault, CommitFault, EntriesFault, GetFault, KeysOfFault,
     PutFault, ReleaseFault, RemoveFault, ResumeFault, RollbackToFault, SavepointFault, Status,

@@ -2,7 +2,7 @@ ghost use Rattle.std.specs.Prelude.{◌≡◌, ◌<◌, ◌++◌, ◌∷◌, [],
 ghost use Rattle.record_texts.specs.Forms.{before, between, behind, byte_text, field_text, hex_digit, hex_text, json_byte, record_line, tsv_byte, csv_byte};
 
 use crate::form::Form;
-use rec_types::{Key, Record};
+use rec_types::Key;
 use std::alloc::AllocError;
 
 fn push_text(out: &mut Vec<u8>, text: &[u8]) -> Result<(), AllocError>
@@ -134,13 +134,13 @@ fn behind(form: Form) -> &'static [u8]
 }
 
 /// Appends the line of a record in a form. Fault: that memory is refused; of the line any front is there then.
-pub fn push_record(out: &mut Vec<u8>, form: Form, entry: &(Key, Record)) -> Result<(), AllocError>
-    ensures { OnOk result (out.new.items ≡ out.old.items ++ record_line form entry.now) }
+pub fn push_record(out: &mut Vec<u8>, form: Form, key: &Key, value: &[u8]) -> Result<(), AllocError>
+    ensures { OnOk result
+        (out.new.items ≡ out.old.items ++ record_line form (key.now, value.now)) }
 {
-    let (key, value) = entry;
     push_text(out, before(form))?;
     push_field(out, form, key.bytes())?;
     push_text(out, between(form))?;
-    push_field(out, form, value.bytes())?;
+    push_field(out, form, value)?;
     push_text(out, behind(form))
 }

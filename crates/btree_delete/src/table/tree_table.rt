@@ -17,7 +17,7 @@ ghost use Rattle.page_store.specs.StoreCalls.{StaysStore};
 ghost use Rattle.page_store.specs.StoreUnder.{IsStoreOf, LiesOver, OnlyAsks};
 ghost use Rattle.btree_node.specs.Layout.{second_version, greatest_order};
 ghost use Rattle.btree_insert.specs.Sizes.{greatest_height};
-ghost use Rattle.btree_insert.specs.Told.{TellsAll, TellsSome};
+ghost use Rattle.rec_types.specs.Told.{TellsAll, TellsSome, TellsUntil};
 ghost use Rattle.btree_delete.specs.Closing.{closing, IsHandedOver, IsUnclosed, StopsAnywhere};
 ghost use Rattle.btree_delete.specs.Origins.{Origin, origin_of};
 ghost use Rattle.btree_delete.specs.TableView.{TableView, HoldsTree, IsClosed, IsUncalled, table_contents};
@@ -30,10 +30,12 @@ mod sealing;
 use crate::opening::open_file::{OpenStop, open_file};
 use crate::table::change::change;
 use crate::table::fault_counts::{FaultCounts, NO_FAULTS, told};
-use btree_insert::{ElementSink, Tree, look_up, tell, walk};
+use btree_insert::{Tree, look_up, tell, walk};
 use btree_node::{GREATEST_ORDER, Header, SECOND_VERSION, write_header};
 use page_store::{PageEdit, Pages, Store, WriteFault};
-use rec_types::{Key, Limits, NO_CALLS, Record, Table, TableCalls, TableFault, TableState};
+use rec_types::{
+    Key, Limits, NO_CALLS, Record, RecordSink, Table, TableCalls, TableFault, TableState,
+};
 use std::alloc::Global;
 use std::collections::BTreeSet;
 use std::marker::Model;
@@ -259,38 +261,6 @@ impl<S: Store> TreeTable<S> {
         pages.into_store()
     }
 
-    /// Tells a sink the records in key order, and counts as a call of `entries`; it holds only the pages on a way down, and makes
-    /// at most as many reads of the store as the tree has pages. Inside, the fault at which the sink stopped. Faults: Device, Damaged;
-    /// the sink was told those before the page then. No page changes.
-    pub fn tell_all<O, K: ElementSink<O>>(
-        &mut self,
-        sink: &mut K,
-        out: &mut O,
-    ) -> Result<Result<(), K::Fault>, TableFault>
-        ensures told { IsTrue self.old.pages.steady
-            → TellsAll TableFault.Device (λ xs. K.told sink.old out.old xs sink.new out.new)
-            (λ xs fault. K.stops sink.old out.old xs fault sink.new out.new)
-            (maps.entries (table_contents self.old)) result }
-        ensures some { TellsSome (λ xs. K.told sink.old out.old xs sink.new out.new)
-            (λ xs fault. K.stops sink.old out.old xs fault sink.new out.new) result }
-        ensures same { table_contents self.new ≡ table_contents self.old }
-        ensures faults { IfErr result (λ fault. (fault ≡ TableFault.Device)
-            ⊎ ((page : ℕ) × (fault ≡ TableFault.Damaged page))) }
-        ensures answered { Answered ⟦<TreeTable<S> as TableState>⟧ self.old result self.new }
-        ensures calls { self.new.calls ≡ with_list self.old.calls }
-        ensures rest { self.new ≡ record self.old {
-          pages = with_reads self.old.pages self.new.pages;
-          damages = self.new.damages;
-          calls = self.new.calls;
-        } }
-        ensures reads { self.new.pages.reads ≤ self.old.pages.reads + self.old.tree.used }
-    {
-        let answer = told(tell(&mut self.pages, &self.tree, sink, out));
-        self.faults.note(&answer);
-        self.calls.note_list();
-        answer
-    }
-
     /// The order of the tree, 1 to 16.
     pub fn order(&self) -> u16
         ensures value { result ≡ self.now.tree.order }
@@ -449,6 +419,43 @@ impl<S: Store> Table for TreeTable<S> {
         self.faults.note(&records);
         self.calls.note_list();
         records
+    }
+
+    /// Tells a sink the records in key order; it holds only the pages on a way down, and makes at most as many reads of the
+    /// store as the tree has pages. Inside, the fault at which the sink stopped. Faults: Device, Damaged; the sink was told
+    /// those before the page then. No page changes.
+    fn tell<O, K: RecordSink<O>>(
+        &mut self,
+        sink: &mut K,
+        out: &mut O,
+    ) -> Result<Result<(), K::Fault>, TableFault>
+        ensures told { IsTrue self.old.pages.steady
+            → TellsUntil (λ xs. K.told sink.old out.old xs sink.new out.new)
+            (λ xs fault. K.stops sink.old out.old xs fault sink.new out.new)
+            (maps.entries (table_contents self.old)) result }
+        ensures some { TellsSome (λ xs. K.told sink.old out.old xs sink.new out.new)
+            (λ xs fault. K.stops sink.old out.old xs fault sink.new out.new) result }
+        ensures same { table_contents self.new ≡ table_contents self.old }
+        ensures no_room { NeverFull result }
+        ensures answered { Answered ⟦<TreeTable<S> as TableState>⟧ self.old result self.new }
+        ensures calls { self.new.calls ≡ with_list self.old.calls }
+        ensures all { IsTrue self.old.pages.steady
+            → TellsAll TableFault.Device (λ xs. K.told sink.old out.old xs sink.new out.new)
+            (λ xs fault. K.stops sink.old out.old xs fault sink.new out.new)
+            (maps.entries (table_contents self.old)) result }
+        ensures faults { IfErr result (λ fault. (fault ≡ TableFault.Device)
+            ⊎ ((page : ℕ) × (fault ≡ TableFault.Damaged page))) }
+        ensures rest { self.new ≡ record self.old {
+          pages = with_reads self.old.pages self.new.pages;
+          damages = self.new.damages;
+          calls = self.new.calls;
+        } }
+        ensures reads { self.new.pages.reads ≤ self.old.pages.reads + self.old.tree.used }
+    {
+        let answer = told(tell(&mut self.pages, &self.tree, sink, out));
+        self.faults.note(&answer);
+        self.calls.note_list();
+        answer
     }
 
     fn count(&self) -> u32 {

@@ -3,7 +3,7 @@ ghost use Rattle.rec_types.specs.Table.{Damages, damaged_by};
 
 mod lies;
 
-use rec_types::{Key, NO_CALLS, Record, Table, TableCalls, TableFault, TableState};
+use rec_types::{Key, NO_CALLS, Record, RecordSink, Table, TableCalls, TableFault, TableState};
 
 /// What a table that isn't sound says in place of what it should do.
 #[derive(Clone, Copy, Debug)]
@@ -130,6 +130,22 @@ impl<T: Table> Table for LyingTable<T> {
         };
         self.named.note(&answer);
         self.calls.note_list();
+        answer
+    }
+
+    fn tell<O, K: RecordSink<O>>(
+        &mut self,
+        sink: &mut K,
+        out: &mut O,
+    ) -> Result<Result<(), K::Fault>, TableFault> {
+        self.calls.note_list();
+        if let Some(Lie::Damaged(page)) = self.lies.next() {
+            let lie = Err(TableFault::Damaged(page));
+            self.named.note(&lie);
+            return lie;
+        }
+        let answer = self.inner.tell(sink, out);
+        self.named.note(&answer);
         answer
     }
 

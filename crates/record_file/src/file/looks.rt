@@ -1,11 +1,16 @@
-ghost use Rattle.std.specs.Prelude.{◌≡◌, Ok, IfOk, map};
+ghost use Rattle.std.specs.Prelude.{◌≡◌, List, Result, Ok, IsTrue, IfOk, IfErr, map};
+ghost use Rattle.rec_types.specs.Told.{TakesPart};
+ghost use Rattle.rec_types.specs.declared.transaction.Entry.{Entry as EntryValue};
 ghost use Rattle.record_file.specs.Abstract.{IsKeptFile};
 ghost use Rattle.tx_log.specs.LogState.{open_in, history_in};
 ghost use Rattle.record_file.specs.Durable.{ChangesStep, Keeps};
+ghost use Rattle.record_file.specs.OwnedRecords.{GoesTo};
 ghost use Rattle.record_file.specs.Runs.{Made, Get, Commit, Entries, KeysOf, StatusOf, Charged, Begun, LogLen, LogUse, RecordAt};
-ghost use Rattle.record_file.specs.Steps.{entry_with, listed};
+ghost use Rattle.record_file.specs.Steps.{entries_of, entry_with, listed};
 
 use super::RecordFile;
+use super::owned::Owned;
+use crate::EntrySink;
 use crate::fault::{ChangesFault, EntriesFault, GetFault, KeysOfFault, Status, StatusFault};
 use rec_types::{Entry, Key, Memory, Record, Table, TxId};
 use std::alloc::Global;
@@ -28,6 +33,22 @@ impl<T: Table> RecordFile<T> {
         let records = self.table.entries()?;
         let entries = with_owners(*records.allocator(), &self.log, &records)?;
         Ok(entries)
+    }
+
+    /// Tells a sink the records in key order, each with the transaction that owns its key, as `entries` lists them. Inside, the
+    /// fault at which the sink stopped. Faults: Device or Damaged, Memory; the sink was told some of the entries then, from the
+    /// first on.
+    pub fn tell<K: EntrySink>(&mut self, sink: &mut K) -> Result<Result<(), K::Fault>, EntriesFault>
+        ensures told { (answer : Result (List EntryValue) EntriesFault)
+            × Made T.TableState self.old (Entries answer) self.new
+            × GoesTo (λ es. K.told sink.old es sink.new) (λ es fault. K.stops sink.old es fault sink.new)
+            answer result }
+        ensures part { IsTrue (T.sound self.old.table) → IfErr result
+            (λ _. TakesPart (λ es. K.told sink.old es sink.new) (entries_of self.old.file)) }
+    {
+        let mut owned = Owned { log: &self.log };
+        let taken = self.table.tell(&mut owned, sink)?;
+        Ok(taken)
     }
 
     /// The keys that an open transaction owns, in order. Faults: NoSuchTx, Memory.
@@ -116,8 +137,7 @@ fn with_owners(alloc: Global, log: &TxLog, records: &[(Key, Record)]) -> Result<
     ensures { IfOk result (λ entries. entries.items
         ≡ map (entry_with (open_in log.now) (history_in log.now)) records.now) }
 {
-    // Half of this room is never touched: with it the C library keeps the memory of a list for the next one.
-    let mut entries = Vec::with_capacity(alloc, records.len().saturating_mul(2))?;
+    let mut entries = Vec::with_capacity(alloc, records.len())?;
     for &(key, value) in records {
         let owner = log.owner(&key);
         entries.push(Entry { key, value, owner })?;

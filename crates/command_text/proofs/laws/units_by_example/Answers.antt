@@ -1,4 +1,4 @@
-use Rattle.std.proofs.Common.{◌≡◌, ◌∷◌, [], List, ℕ, Some, None, codes, refl}
+use Rattle.std.proofs.Common.{◌≡◌, ◌∷◌, [], Some, None, codes, refl}
 use Rattle.std.specs.Fmt.{digits}
 use Rattle.commit_paper.specs.Text.{IsUnit}
 use Rattle.command_text.specs.Texts.{escaped}

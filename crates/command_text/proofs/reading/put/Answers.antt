@@ -1,9 +1,7 @@
-use Rattle.std.proofs.Common.{◌≡◌, ℕ, List, Option, Some, Ok, sym, ap, ◌∙◌, rules}
-use Rattle.command_text.specs.Grammar.{Read, words_of, three_of, tx_at, key_at, record_at, read_as, or_fault}
+use Rattle.std.proofs.Common.{◌≡◌, Some, Ok, sym, ap, ◌∙◌, rules}
+use Rattle.command_text.specs.Grammar.{words_of, three_of, tx_at, key_at, record_at, read_as, or_fault}
 use Rattle.command_text.specs.Words.{record_from}
 use Rattle.percent_encoding.specs.Percent.{percent_decode}
-use Rattle.command_text.specs.declared.command.Command.{Command}
-use Rattle.command_text.specs.declared.command.Command.TheVariants as commands
 use Rattle.command_text.specs.declared.command.LineFault.TheVariants.{RecordTooLong}
 use Rattle.command_text.proofs.PlainLemmas.{plain_record, put_by_record}
 use Rattle.command_text.proofs.reading.put.Goals as goal

@@ -1,0 +1,41 @@
+-- What a sink was told.
+use Rattle.std.proofs.Common.{◌≡◌, ℕ, ◌+◌, ◌<◌, List, [], ◌∷◌, ◌++◌, Result, Ok, Err, length, get_or, take, drop, map, refl, ap, sym, ◌∙◌, subst}
+use Rattle.std.proofs.lemmas.List.{map-append, map_push, take-append-drop, take_more}
+use Rattle.rec_types.specs.Sorted.{Pairs, pair_at}
+use Rattle.rec_types.specs.Told.{Takes, TakesFront, TakesPart, TellsAll, TellsUntil}
+
+abbrev pub Told : Type 1
+Told = Pairs → Type 0
+
+-- the same pair
+pub told_pair : {F : Type 0} (told : Told) (stops : Pairs → F → Type 0) (p q : List ℕ × List ℕ) (r : Result (Unit {0}) F) → p ≡ q → Takes told stops (p ∷ []) r → Takes told stops (q ∷ []) r
+told_pair told stops p q r is takes = subst (λ (x : List ℕ × List ℕ). Takes told stops (x ∷ []) r) is takes
+
+-- nothing was told yet
+pub none_of : (told : Told) (es : Pairs) → told [] → TakesPart told es
+none_of told es none = record { front = []; rest = es; whole = refl; took = none }
+
+-- a front is a part
+pub front_is_part : (told : Told) (es : Pairs) → TakesFront told es → TakesPart told es
+front_is_part told es part = record { front = part.front; rest = part.next ∷ part.rest; whole = part.whole; took = part.took }
+
+-- all, or a front up to a fault of the device, are all, or a part up to a fault
+pub all_until : {E F : Type 0} (device : E) (told : Told) (stops : Pairs → F → Type 0) (es : Pairs) (r : Result (Result (Unit {0}) F) E) → TellsAll device told stops es r → TellsUntil told stops es r
+all_until device told stops es (Ok (Ok done)) is = is
+all_until device told stops es (Ok (Err fault)) is = is
+all_until device told stops es (Err fault) is = front_is_part told es is.1
+
+-- the pairs at one more place
+pub pairs_to : (es : Pairs) (places : List ℕ) (k : ℕ) → k < length places → map (pair_at es) (take k places) ++ pair_at es (get_or places k 0) ∷ [] ≡ map (pair_at es) (take (k + 1) places)
+pairs_to es places k below = sym (map_push (pair_at es) (take k places) (get_or places k 0)) ∙ ap (map (pair_at es)) (sym (take_more places k 0 below))
+
+-- the same pairs
+pub told_pairs : {F : Type 0} (told : Told) (stops : Pairs → F → Type 0) (es fs : Pairs) (r : Result (Unit {0}) F) → es ≡ fs → Takes told stops es r → Takes told stops fs r
+told_pairs told stops es fs r is takes = subst (λ (xs : Pairs). Takes told stops xs r) is takes
+
+-- and those at the places behind it
+pub pairs_behind : (es : Pairs) (places : List ℕ) (k : ℕ) → k < length places → (map (pair_at es) (take k places) ++ pair_at es (get_or places k 0) ∷ []) ++ map (pair_at es) (drop (k + 1) places) ≡ map (pair_at es) places
+pairs_behind es places k below =
+    ap (λ (xs : Pairs). xs ++ map (pair_at es) (drop (k + 1) places)) (pairs_to es places k below)
+    ∙ sym (map-append (pair_at es) (take (k + 1) places) (drop (k + 1) places))
+    ∙ ap (map (pair_at es)) (take-append-drop (k + 1) places)
