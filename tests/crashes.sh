@@ -500,9 +500,18 @@ note_answers() {
 # Notes the records that the session makes with these of its commits alone.
 make_want() { # of_LINE_LINE..
     [ ! -e wants/$1 ] || return 0
-    awk -v kept="$1_" '$1 != "commit" || index(kept, "_" FNR "_")' session > some
+    # What stands between flushes is a session; one while a transaction is open is refused.
+    rm -f some_*
+    awk -v kept="$1_" '
+        $1 == "begin" { ++open }
+        $1 == "commit" { --open }
+        $1 == "flush" && !open { ++part }
+        $1 != "commit" || index(kept, "_" FNR "_") { print > ("some_" part + 0) }
+    ' session
     cp old wanted
-    "$program" run wanted < some > some_out 2> some_err || fail "the session with the commits $1"
+    for some in some_*; do
+        "$program" run wanted < $some > replies_of_some 2> err_of_some || fail "the session with the commits $1"
+    done
     list_of wanted > wants/$1
 }
 
@@ -720,6 +729,28 @@ put 4 f =open
 END
 next_too=no
 stop_durable 0 4
+fail_durable 0 FAIL_AT
+
+durable "flushes in a durable shell" shell four << 'END'
+begin
+put 1 a =1
+begin
+put 2 c =2
+commit 2
+flush
+commit 1
+flush
+begin
+del 1 a
+commit 1
+flush
+begin
+put 1 x =open
+begin
+put 2 e =5
+commit 2
+END
+stop_durable 0 killed lost noise
 fail_durable 0 FAIL_AT
 
 durable "a durable run that finds a log" run left_file left_log << 'END'

@@ -1,16 +1,14 @@
-"""A name of a definition means one thing. Lists each that is declared in two places of specs/ with other bodies, and fails
-where there are more than there may be: a new one is to be named after what it means.
+"""A name of a definition means one thing: fails where one is declared in two places of specs/ with other bodies, and lists
+each of them.
 
-    python3 tests/names.py [--list]
+    python3 tests/names.py
 """
 import collections
 import pathlib
 import re
-import sys
 
 CRATES = pathlib.Path(__file__).resolve().parent.parent / "crates"
 DECLARED = re.compile(r"(?:abbrev |opaque )?pub (?:record |data )?([^\s(:{]+)")
-MOST = 66
 
 
 def definitions(path):
@@ -29,11 +27,10 @@ def main():
             for name, body in definitions(path):
                 meanings[name].setdefault(body, path.relative_to(CRATES))
     several = {name: places for name, places in meanings.items() if len(places) > 1}
-    if "--list" in sys.argv[1:] or len(several) > MOST:
-        for name, places in sorted(several.items()):
-            print(f"{name}: {', '.join(map(str, places.values()))}")
-    print(f"names: {len(meanings)} in specs, {len(several)} with several meanings, at most {MOST}")
-    if len(several) > MOST:
+    for name, places in sorted(several.items()):
+        print(f"{name}: {', '.join(map(str, places.values()))}")
+    print(f"names: {len(meanings)} in specs, {len(several)} with several meanings")
+    if several:
         raise SystemExit("names: FAILED")
 
 

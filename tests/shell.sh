@@ -131,6 +131,66 @@ echo list | "$program" run durable.rec > out
 expect_replies "- a =x\nok 1\n"
 rm before.rec
 
+# A flush while no transaction is open, however the lines come, is answered once the file has what was committed and the log has
+# no commit; the numbers begin again. Else it is no line of a session: while one is open, without the option, in a script.
+row="a flush"
+cat > script << 'END'
+begin
+put 1 a =y
+flush
+commit 1
+flush
+begin
+del 1 a
+commit 1
+flush
+
+flush
+begin
+put 1 b =open
+END
+bad="bad UnknownCommand"
+replies="ok 1\nok =x\n$bad\nok\nok\nok 1\nok =y\nok\nok\nok\nok 1\nok none\n"
+for bytes in 1 3 4096; do
+    cp durable.rec flushed.rec
+    slow_shell $bytes --durable flushed.rec < script
+    expect 0 ""
+    expect_replies "$replies"
+    [ "$(echo flushed.rec*)" = flushed.rec ] || fail "something stands beside the file: $(echo flushed.rec*)"
+    echo list | "$program" run flushed.rec > out
+    expect_replies "ok 0\n"
+done
+cp durable.rec flushed.rec
+shell --durable --begins 2 flushed.rec < script
+expect 0 ""
+expect_replies "$replies"
+shell --durable --strict flushed.rec < script
+expect 3 "recfile: Refused 3"
+printf 'flush\nbegin\nflush' > ends
+shell --durable --strict flushed.rec < ends
+expect 3 "recfile: Refused 2"
+expect_replies "ok\nok 1\n$bad\n"
+for words in "shell flushed.rec" shell "run --durable flushed.rec"; do
+    echo flush | "$program" $words > out
+    expect_replies "$bad\n"
+done
+cp durable.rec flushed.rec
+"$program" shell --durable flushed.rec < to > from &
+exec 3> to 4< from
+for line in begin "del 1 a" "commit 1" flush begin; do
+    echo "$line" >&3
+    read -r reply <&4
+done
+[ "$reply" = "ok 1" ] || fail "behind a flush the reply is $reply"
+tail -n +2 flushed.rec-commits | tr -d '\000' > kept
+[ ! -s kept ] || fail "behind a flush the log says $(cat kept)"
+status=0
+"$program" shell flushed.rec < /dev/null > out 2> err || status=$?
+[ "$status:$(head -n 1 err)" = "1:recfile: Device" ] || fail "another session opens the file: status $status, $(cat err)"
+exec 3>&- 4<&-
+wait
+rm -f flushed.rec script ends kept
+
 spaced() { # WORD LENGTH: a line of that length with its LF
     awk -v word="$1" -v length_wanted="$2" 'BEGIN { printf "%s%*s\n", word, length_wanted - length(word), "" }'
 }

@@ -85,7 +85,12 @@ def ends(program):
     screen, status = typed(program, ["shell", "--durable", "a.rec"], ["begin", "put 1 c =z", "commit 1", "begin", "del 2 c"])
     expect("a durable session", (screen.split("recfile [2]> ")[-1], status, os.path.exists("a.rec-commits")), (
         "\n1 transaction was committed, and is kept\n1 transaction was open, and was taken back\n", 0, False))
-    typed(program, ["shell", "a.rec"], ["begin", "del 1 c", "commit 1"])
+    screen, status = typed(program, ["shell", "--durable", "a.rec"], ["begin", "del 1 c", "flush", "commit 1", "flush", "begin"])
+    expect("flushes", (screen, status), (
+        "recfile> begin\nok 1\nrecfile [1]> del 1 c\nok =z\n"
+        "recfile [1]> flush\na flush is only taken while no transaction is open\nbad UnknownCommand\n"
+        "recfile [1]> commit 1\nok\nrecfile> flush\nok\nrecfile> begin\nok 1\n"
+        "recfile [1]> \n1 transaction was committed, and is kept\n1 transaction was open, and was taken back\n", 0))
     screen, status = typed(program, ["shell", "missing.rec"], [])
     expect("no session", (screen.startswith("recfile: Device\n"), "kept" in screen, status), (True, False, 1))
     screen, _ = typed(program, ["shell"], ["begin"] * 10)
@@ -213,7 +218,7 @@ def main():
         wrapped(program)
         screen, status = screen_of(program, ["shell"], [b"help\n", END])
         expect("the commands", [line.split()[0] for line in screen.split("\n")[1:-1]],
-               "begin put del get claim save release back resume abort commit list keys log show recfile> nothing".split())
+               "begin put del get claim save release back resume abort commit list keys log flush show recfile> nothing".split())
         screen, status = screen_of(program, [], [])
         if "Usage: recfile" not in screen or "To begin: recfile create" not in screen or status != 0:
             raise SystemExit(f"terminal: FAILED: no word: {screen!r}, status {status}")

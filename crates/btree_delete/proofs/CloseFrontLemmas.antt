@@ -13,7 +13,7 @@ use Rattle.page_store.proofs.WriteBackLemmas.{kept_left}
 use Rattle.btree_node.specs.declared.header.Header.{Header}
 use Rattle.btree_node.specs.HeaderSpelling.{magic, header_bytes, header_spelling, state_at, clean_state, writing_state}
 use Rattle.btree_node.proofs.HeaderLemmas.{header_reads, fields_same}
-use Rattle.btree_delete.specs.Closing.{header_of, closing, IsRefused, IsFile, IsEither}
+use Rattle.btree_delete.specs.Closing.{header_of, closing, IsNoCleanFile, IsFile, IsEither}
 use Rattle.btree_delete.specs.TableView.{TableView}
 use Rattle.btree_delete.proofs.ClosedFileLemmas.{one_page}
 
@@ -26,15 +26,15 @@ unfolding state_at blank
 blank_state = refl
 
 -- page 0 isn't in the state of a closed file
-other_state : (pages : List (List ℕ)) (page : List ℕ) (state : ℕ) → slice_get pages 0 ≡ Some page → state_at page ≡ state → (state ≡ clean_state → ⊥) → IsRefused pages
+other_state : (pages : List (List ℕ)) (page : List ℕ) (state : ℕ) → slice_get pages 0 ≡ Some page → state_at page ≡ state → (state ≡ clean_state → ⊥) → IsNoCleanFile pages
 other_state pages page state there is other h tree es us clean =
     other (sym is ∙ ap state_at (one_page pages page (header_spelling h clean_state) there clean.begins.header.page) ∙ state_is h clean_state)
 
-marked_refused : (pages : List (List ℕ)) (h : Header) → slice_get pages 0 ≡ Some (header_spelling h writing_state) → IsRefused pages
+marked_refused : (pages : List (List ℕ)) (h : Header) → slice_get pages 0 ≡ Some (header_spelling h writing_state) → IsNoCleanFile pages
 marked_refused pages h there = other_state pages (header_spelling h writing_state) writing_state there (state_is h writing_state) (λ same. omega (arith, same))
 
 -- a closed file with pages behind it
-longer_file : (old : List (List ℕ)) (more : List (List ℕ)) → IsFile old → 1 ≤ length more → IsRefused (old ++ more)
+longer_file : (old : List (List ℕ)) (more : List (List ℕ)) → IsFile old → 1 ≤ length more → IsNoCleanFile (old ++ more)
 longer_file old more file some h tree es us clean =
     let some_old = file.clean.begins.long.some in
     let long = length-append old more in
@@ -45,22 +45,22 @@ longer_file old more file some h tree es us clean =
     let pages = ap (λ (x : Header). x.pages) (sym one ∙ two) in
     omega (arith, pages, long, some, file.clean.begins.agrees.pages, clean.begins.agrees.pages)
 
-blank_refused : (n : ℕ) → IsRefused (blanks (suc n))
+blank_refused : (n : ℕ) → IsNoCleanFile (blanks (suc n))
 blank_refused n = other_state (blanks (suc n)) blank 0 refl blank_state (λ same. omega (arith, same))
 
 length-blanks : (n : ℕ) → length (blanks n) ≡ n
 length-blanks n = length-replicate n blank
 
-longer : (old : List (List ℕ)) (n : ℕ) → (old ≡ []) ⊎ IsFile old → (old ++ blanks n ≡ old) ⊎ IsRefused (old ++ blanks n)
+longer : (old : List (List ℕ)) (n : ℕ) → (old ≡ []) ⊎ IsFile old → (old ++ blanks n ≡ old) ⊎ IsNoCleanFile (old ++ blanks n)
 longer old zero file = inl (append-nil old)
-longer old (suc n) (inl empty) = inr (subst (λ (ps : List (List ℕ)). IsRefused (ps ++ blanks (suc n))) (sym empty) (blank_refused n))
+longer old (suc n) (inl empty) = inr (subst (λ (ps : List (List ℕ)). IsNoCleanFile (ps ++ blanks (suc n))) (sym empty) (blank_refused n))
 longer old (suc n) (inr file) = inr (longer_file old (blanks (suc n)) file (omega (arith, length-blanks (suc n))))
 
 either_by : (old new all : List (List ℕ)) (count : ℕ) (h : Header) → (old ≡ []) ⊎ IsFile old → IsPartWay old count (header_spelling h writing_state) all new → IsEither old all new
 either_by old new all count h file (inl same) = inl same
 either_by old new all count h file (inr (inl same)) =
     ⊎_elim (λ (as_was : old ++ blanks (count - length old) ≡ old). inl (same ∙ as_was))
-    (λ (refused : IsRefused (old ++ blanks (count - length old))). inr (inl (subst IsRefused (sym same) refused)))
+    (λ (refused : IsNoCleanFile (old ++ blanks (count - length old))). inr (inl (subst IsNoCleanFile (sym same) refused)))
     (longer old (count - length old) file)
 either_by old new all count h file (inr (inr (inl marked))) = inr (inl (marked_refused new h marked))
 either_by old new all count h file (inr (inr (inr same))) = inr (inr same)

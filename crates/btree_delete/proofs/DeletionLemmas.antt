@@ -11,7 +11,7 @@ use Rattle.btree_node.proofs.ElementOrderLemmas.{Ascends-right}
 use Rattle.btree_insert.specs.declared.bounds.Bounds.{Bounds}
 use Rattle.btree_insert.specs.Bounds.{Between}
 use Rattle.btree_insert.specs.Contents.{lookup_in, set_in}
-use Rattle.btree_insert.specs.Growth.{IsOutside}
+use Rattle.btree_insert.specs.Growth.{IsNotOfPages}
 use Rattle.btree_insert.specs.declared.tree.TreeFault.{TreeFault}
 use Rattle.btree_insert.specs.declared.tree.TreeFault.TheVariants.{Device, Damaged, Memory}
 use Rattle.btree_delete.specs.Deleted.{MayStop}
@@ -21,7 +21,7 @@ use Rattle.btree_insert.proofs.SonsAroundLemmas.{Focus}
 use Rattle.btree_insert.proofs.ElementMapLemmas.{lookup-between, lookup-here}
 use Rattle.btree_insert.proofs.Membership.{in_left, in_right, Apart-right, Apart-across, each_in, in_each}
 use Rattle.btree_insert.proofs.HeadNodeLemmas.{Top, find_here, find_no_more}
-use Rattle.btree_delete.specs.Treatment.{element_at, son_at}
+use Rattle.btree_delete.specs.Treatment.{element_at, son_number}
 use Rattle.btree_delete.specs.Shrinking.{MayBeUnderfull, WritesOrHandsUp, Loses, gone, StaysUnvisited, Drops, RemovesBelow, unsettled, Removal, Whole, Underfull}
 use Rattle.btree_delete.specs.Tidy.{is_visited, Untouched, visits}
 use Rattle.btree_delete.specs.Subtrees.{head_page}
@@ -36,13 +36,13 @@ use Rattle.btree_delete.proofs.FirstElementLemmas.{Takes, more_visited}
 use Rattle.btree_delete.proofs.EditLemmas.{untouched_empty, unvisited_push}
 
 -- what stops a deletion from outside may stop it where the key is there
-pub outside_stops : (stood : Option (List ℕ)) (fault : TreeFault) → IsSome stood → IsOutside fault → MayStop stood fault
+pub outside_stops : (stood : Option (List ℕ)) (fault : TreeFault) → IsSome stood → IsNotOfPages fault → MayStop stood fault
 outside_stops stood Device some out = tt
 outside_stops stood (Damaged page) some out = out
 outside_stops stood Memory some out = some
 
 -- what may stop a deletion comes from outside
-pub stops_outside : (stood : Option (List ℕ)) (fault : TreeFault) → MayStop stood fault → IsOutside fault
+pub stops_outside : (stood : Option (List ℕ)) (fault : TreeFault) → MayStop stood fault → IsNotOfPages fault
 stops_outside stood Device stops = tt
 stops_outside stood (Damaged page) stops = stops
 stops_outside stood Memory stops = tt
@@ -131,7 +131,7 @@ inner_body k pages h n m sons els es us inner kind_is els_is sons_is fan = (
 -- an element in an inner page gives way to the next greater one, and no son is underfull
 pub next_whole : (k : ℕ) (old : PageMap) (ws ws2 : List (ℕ × List ℕ)) (fs : List ℕ) (least height h p : ℕ) (es : List Element) (us : List ℕ) (b c : Bounds) (n m : Node) (i : ℕ) (e nx : Element) (g : Removal) (visited visited2 : List ℕ) → 1 ≤ k → least ≤ k → Apart us → Between b es → (head : Top k old least height (suc h) p es us b n)
     → (at : Next (TreeAt k old k (suc h)) (TreeAt k (after old ws fs) k (suc h)) (λ q. after old ws fs q ≡ old q) n.sons.items n.elements.items es head.below (element_at n i).0 i b (element_at n i))
-    → Takes k old (after old ws fs) 0 (length fs) k h (son_at n (suc i)) at.xs at.mine visited visited2 (Whole nx)
+    → Takes k old (after old ws fs) 0 (length fs) k h (son_number n (suc i)) at.xs at.mine visited visited2 (Whole nx)
     → MayBeUnderfull k height c m → e ≡ element_at n i → m.kind ≡ n.kind → m.elements.items ≡ set n.elements.items i nx → m.sons.items ≡ n.sons.items → Untouched ws fs p → WritesOrHandsUp k ws ws2 p e m g
     → RemovesBelow (head_page k least (suc h) p) (pages_freed old (after old ws2 fs) 0 (length fs)) es us (visits visited visited2) (element_at n i).0 (Some g)
 next_whole k old ws ws2 fs least height h p es us b c n m i e nx g visited visited2 order low apart between head at took may_be_underfull e_is kind_is els_is sons_is untouched done =
@@ -156,12 +156,12 @@ next_whole k old ws ws2 fs least height h p es us b c n m i e nx g visited visit
 
 -- the same, and the son that gave it is underfull
 pub next_broken : (k : ℕ) (old : PageMap) (ws : List (ℕ × List ℕ)) (fs : List ℕ) (least height h p : ℕ) (es : List Element) (us : List ℕ) (b : Bounds) (n m : Node) (i : ℕ) (nx : Element) (son : Node) (visited visited2 : List ℕ) → Apart us → (head : Top k old least height (suc h) p es us b n)
-    → (at : Next (TreeAt k old k (suc h)) (Kin k old (after old ws fs) visited2 h (son_at n (suc i)) son) (IsBeside old (after old ws fs) visited2 (son_at n (suc i))) n.sons.items n.elements.items es head.below (element_at n i).0 i b (element_at n i))
-    → Each (λ u. is_visited visited u ≡ false) head.below → (took : Takes k old (after old ws fs) 0 (length fs) k h (son_at n (suc i)) at.xs at.mine visited visited2 (Underfull nx son)) → m.elements.items ≡ set n.elements.items i nx → m.sons.items ≡ n.sons.items
-    → Broken k old (after old ws fs) visited2 0 (length fs) h p (son_at n (suc i)) son m (set_in (element_at n i).0 None es) us
+    → (at : Next (TreeAt k old k (suc h)) (Kin k old (after old ws fs) visited2 h (son_number n (suc i)) son) (IsBeside old (after old ws fs) visited2 (son_number n (suc i))) n.sons.items n.elements.items es head.below (element_at n i).0 i b (element_at n i))
+    → Each (λ u. is_visited visited u ≡ false) head.below → (took : Takes k old (after old ws fs) 0 (length fs) k h (son_number n (suc i)) at.xs at.mine visited visited2 (Underfull nx son)) → m.elements.items ≡ set n.elements.items i nx → m.sons.items ≡ n.sons.items
+    → Broken k old (after old ws fs) visited2 0 (length fs) h p (son_number n (suc i)) son m (set_in (element_at n i).0 None es) us
 next_broken k old ws fs least height h p es us b n m i nx son visited visited2 apart head at unvisited took els_is sons_is =
     let mid = after old ws fs in
-    let s = son_at n (suc i) in
+    let s = son_number n (suc i) in
     let us_is = head.us_is ∙ ap (λ (vs : List ℕ). p ∷ vs) at.us_is in
     let (below, body, same, loses) = took.leaves in
     let around = around_son old mid visited visited2 0 (length fs) p s us at.upre at.mine at.upost (s ∷ below) us_is apart (subst (Each (λ u. is_visited visited u ≡ false)) at.us_is unvisited) took.unvisited (loses.left.within s (inl refl)) loses in
@@ -189,7 +189,7 @@ drop_treated k old ws ws3 fs fs2 least height h p s es us b F son e x g visited2
 -- below a son, which needs no treating
 pub drop_whole : (k : ℕ) (old : PageMap) (ws : List (ℕ × List ℕ)) (fs : List ℕ) (least height h p : ℕ) (es : List Element) (us : List ℕ) (b : Bounds) (n : Node) (i : ℕ) (e : Element) (visited visited2 key : List ℕ) → Apart us → (head : Top k old least height (suc h) p es us b n)
     → (at : Focus (TreeAt k old k (suc h)) (TreeAt k (after old ws fs) k (suc h)) (λ q. after old ws fs q ≡ old q) n.sons.items n.elements.items es head.below key i b)
-    → RemovesBelow (head_page k k h (son_at n i)) (pages_freed old (after old ws fs) 0 (length fs)) at.xs at.mine (visits (visited ++ p ∷ []) visited2) key (Some (Whole e)) → RemovesBelow (head_page k least (suc h) p) (pages_freed old (after old ws fs) 0 (length fs)) es us (visits visited visited2) key (Some (Whole e))
+    → RemovesBelow (head_page k k h (son_number n i)) (pages_freed old (after old ws fs) 0 (length fs)) at.xs at.mine (visits (visited ++ p ∷ []) visited2) key (Some (Whole e)) → RemovesBelow (head_page k least (suc h) p) (pages_freed old (after old ws fs) 0 (length fs)) es us (visits visited visited2) key (Some (Whole e))
 drop_whole k old ws fs least height h p es us b n i e visited visited2 key apart head at removed =
     let mid = after old ws fs in
     let us_is = head.us_is ∙ ap (λ (vs : List ℕ). p ∷ vs) at.us_is in
@@ -214,7 +214,7 @@ drop_whole k old ws fs least height h p es us b n i e visited visited2 key apart
 -- not below a son
 pub drop_none : (k : ℕ) (old new : PageMap) (lo hi least height h p : ℕ) (es : List Element) (us : List ℕ) (b : Bounds) (n : Node) (i : ℕ) (visited visited2 key : List ℕ) → (head : Top k old least height (suc h) p es us b n)
     → (at : Focus (TreeAt k old k (suc h)) (TreeAt k old k (suc h)) (λ q. Unit {0}) n.sons.items n.elements.items es head.below key i b)
-    → RemovesBelow (head_page k k h (son_at n i)) (pages_freed old new lo hi) at.xs at.mine (visits (visited ++ p ∷ []) visited2) key None → RemovesBelow (head_page k least (suc h) p) (pages_freed old new lo hi) es us (visits visited visited2) key None
+    → RemovesBelow (head_page k k h (son_number n i)) (pages_freed old new lo hi) at.xs at.mine (visits (visited ++ p ∷ []) visited2) key None → RemovesBelow (head_page k least (suc h) p) (pages_freed old new lo hi) es us (visits visited visited2) key None
 drop_none k old new lo hi least height h p es us b n i visited visited2 key head at removed =
     let us_is = head.us_is ∙ ap (λ (vs : List ℕ). p ∷ vs) at.us_is in
     record {
@@ -224,12 +224,12 @@ drop_none k old new lo hi least height h p es us b n i visited visited2 key head
 
 -- below a son, which is underfull now
 pub drop_broken : (k : ℕ) (old : PageMap) (ws : List (ℕ × List ℕ)) (fs : List ℕ) (least height h p : ℕ) (es : List Element) (us : List ℕ) (b : Bounds) (n : Node) (i : ℕ) (e : Element) (son : Node) (visited visited2 key : List ℕ) → Apart us → (head : Top k old least height (suc h) p es us b n)
-    → (at : Focus (TreeAt k old k (suc h)) (Kin k old (after old ws fs) visited2 h (son_at n i) son) (IsBeside old (after old ws fs) visited2 (son_at n i)) n.sons.items n.elements.items es head.below key i b)
-    → Each (λ u. is_visited visited u ≡ false) us → RemovesBelow (head_page k k h (son_at n i)) (pages_freed old (after old ws fs) 0 (length fs)) at.xs at.mine (visits (visited ++ p ∷ []) visited2) key (Some (Underfull e son))
-    → Broken k old (after old ws fs) visited2 0 (length fs) h p (son_at n i) son n (set_in key None es) us × (lookup_in key es ≡ Some e.1) × (e.0 ≡ key)
+    → (at : Focus (TreeAt k old k (suc h)) (Kin k old (after old ws fs) visited2 h (son_number n i) son) (IsBeside old (after old ws fs) visited2 (son_number n i)) n.sons.items n.elements.items es head.below key i b)
+    → Each (λ u. is_visited visited u ≡ false) us → RemovesBelow (head_page k k h (son_number n i)) (pages_freed old (after old ws fs) 0 (length fs)) at.xs at.mine (visits (visited ++ p ∷ []) visited2) key (Some (Underfull e son))
+    → Broken k old (after old ws fs) visited2 0 (length fs) h p (son_number n i) son n (set_in key None es) us × (lookup_in key es ≡ Some e.1) × (e.0 ≡ key)
 drop_broken k old ws fs least height h p es us b n i e son visited visited2 key apart head at unvisited removed =
     let mid = after old ws fs in
-    let s = son_at n i in
+    let s = son_number n i in
     let us_is = head.us_is ∙ ap (λ (vs : List ℕ). p ∷ vs) at.us_is in
     let apart2 = subst Apart us_is apart in
     let (key_is, found, (below, body, same, loses)) = removed.drops in

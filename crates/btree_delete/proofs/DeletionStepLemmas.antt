@@ -8,7 +8,7 @@ use Rattle.btree_insert.specs.declared.bounds.Bounds.{Bounds}
 use Rattle.btree_insert.specs.Bounds.{AreWithin, Between, son_bounds}
 use Rattle.btree_insert.specs.PageTrees.{IsIn, Fan, Spells, kind_of_level}
 use Rattle.btree_insert.proofs.Membership.{in_left, in_right}
-use Rattle.btree_delete.specs.Treatment.{son_at, brothers}
+use Rattle.btree_delete.specs.Treatment.{son_number, brothers}
 use Rattle.btree_delete.specs.Shrinking.{MayBeUnderfull, WritesOrHandsUp, Loses, TreatsAndSettles, StaysUnvisited, unsettled, Removal}
 use Rattle.btree_delete.specs.Tidy.{is_visited, Untouched, done_so_far}
 use Rattle.btree_delete.proofs.BrotherLemmas.{right_brother, treated_right, left_brother, treated_left}
@@ -32,18 +32,18 @@ pub record TreatedSon (k : ℕ) (old mid new : PageMap) (lo hi h : ℕ) (G : Nod
 -- what is asked of a brother on the right, and on the left
 abbrev pub AskRight : ℕ → PageMap → ℕ → List ℕ → Bounds → Node → ℕ → (Node → Type 0) → Type 0
 AskRight k old level visited b F i X =
-    i < length F.elements.items → (n : Node) → Spells k old (son_at F (suc i)) n → n.kind ≡ kind_of_level level → AreWithin (son_bounds F.elements.items (suc i) b) n.elements.items → is_visited visited (son_at F (suc i)) ≡ false → X n
+    i < length F.elements.items → (n : Node) → Spells k old (son_number F (suc i)) n → n.kind ≡ kind_of_level level → AreWithin (son_bounds F.elements.items (suc i) b) n.elements.items → is_visited visited (son_number F (suc i)) ≡ false → X n
 
 -- what is asked of the brother on the left where the son is the last
 abbrev pub AskLeft : ℕ → PageMap → ℕ → List ℕ → Bounds → Node → ℕ → (ℕ → Node → Type 0) → Type 0
 AskLeft k old level visited b F i X =
-    (j : ℕ) → i ≡ suc j → i ≡ length F.elements.items → (n : Node) → Spells k old (son_at F j) n → n.kind ≡ kind_of_level level → AreWithin (son_bounds F.elements.items j b) n.elements.items → is_visited visited (son_at F j) ≡ false → X j n
+    (j : ℕ) → i ≡ suc j → i ≡ length F.elements.items → (n : Node) → Spells k old (son_number F j) n → n.kind ≡ kind_of_level level → AreWithin (son_bounds F.elements.items j b) n.elements.items → is_visited visited (son_number F j) ≡ false → X j n
 
 pair_in : (t : ℕ) (us upre lefts rights upost : List ℕ) → us ≡ upre ++ ((lefts ++ rights) ++ upost) → IsIn t (lefts ++ rights) → IsIn t us
 pair_in t us upre lefts rights upost us_is is = subst (IsIn t) (sym us_is) (in_right t upre ((lefts ++ rights) ++ upost) (in_left t (lefts ++ rights) upost is))
 
 -- an underfull son has a brother, so that the question has an answer
-pub ask : (X : Type 0) (k : ℕ) (old mid : PageMap) (visited : List ℕ) (lo hi h level p s : ℕ) (node F : Node) (es : List Element) (us : List ℕ) (b : Bounds) (i : ℕ) → suc h ≡ level → 0 < length F.elements.items → i ≤ length F.elements.items → s ≡ son_at F i → Between b es
+pub ask : (X : Type 0) (k : ℕ) (old mid : PageMap) (visited : List ℕ) (lo hi h level p s : ℕ) (node F : Node) (es : List Element) (us : List ℕ) (b : Bounds) (i : ℕ) → suc h ≡ level → 0 < length F.elements.items → i ≤ length F.elements.items → s ≡ son_number F i → Between b es
     → Broken k old mid visited lo hi h p s node F es us → AskRight k old level visited b F i (λ n. X) → AskLeft k old level visited b F i (λ j n. X) → X
 ask X k old mid visited lo hi h level p s node F es us b i level_is some low s_is between broken right left =
     ⊎_elim
@@ -55,7 +55,7 @@ ask X k old mid visited lo hi h level p s node F es us b i level_is some low s_i
     at zero is more = absurd (omega (arith, some, is, more))
     at (suc j) is more =
         let i_is : i ≡ suc j = sym is in
-        let br = left_brother k old mid mid visited h s node F es broken.mids b j (s_is ∙ ap (son_at F) i_is) (omega (arith, low, is)) broken.loses.left.apart.1 between broken.fan in
+        let br = left_brother k old mid mid visited h s node F es broken.mids b j (s_is ∙ ap (son_number F) i_is) (omega (arith, low, is)) broken.loses.left.apart.1 between broken.fan in
         left j i_is (omega (arith, low, more)) br.n br.spells (br.head.kind ∙ ap kind_of_level level_is) br.head.within br.beside.unvisited
 
 -- the same, and the page was settled
@@ -71,9 +71,9 @@ abbrev pub Answer : ℕ → ℕ → Bounds → ℕ → Node → ℕ → Node →
 Answer k height b p F i L R e ws ws3 fs fs2 visited visited2 g t = (visited2 ≡ visited ++ t ∷ []) × TreatsAndSettles (record { order = k; height = height; page = p; bounds = b }) F (brothers i L R) e (done_so_far ws fs) (done_so_far ws3 fs2) g
 
 -- an underfull son treated, and its father settled
-pub treat_son : (k height : ℕ) (old : PageMap) (visited visited2 : List ℕ) (lo h level p s : ℕ) (node F : Node) (e : Element) (g : Removal) (ws ws3 : List (ℕ × List ℕ)) (fs fs2 : List ℕ) (es : List Element) (us : List ℕ) (b : Bounds) (i : ℕ) → 1 ≤ k → suc h ≡ level → 0 < length F.elements.items → i ≤ length F.elements.items → s ≡ son_at F i → Between b es
-    → Untouched ws fs (son_at F i) → ((q : ℕ) → is_visited visited q ≡ false → Untouched ws fs q) → (broken : Broken k old (after old ws fs) visited lo (length fs) h p s node F es us)
-    → AskRight k old level visited b F i (λ n. Answer k height b p F i node n e ws ws3 fs fs2 visited visited2 g (son_at F (suc i))) → AskLeft k old level visited b F i (λ j n. Answer k height b p F j n node e ws ws3 fs fs2 visited visited2 g (son_at F j))
+pub treat_son : (k height : ℕ) (old : PageMap) (visited visited2 : List ℕ) (lo h level p s : ℕ) (node F : Node) (e : Element) (g : Removal) (ws ws3 : List (ℕ × List ℕ)) (fs fs2 : List ℕ) (es : List Element) (us : List ℕ) (b : Bounds) (i : ℕ) → 1 ≤ k → suc h ≡ level → 0 < length F.elements.items → i ≤ length F.elements.items → s ≡ son_number F i → Between b es
+    → Untouched ws fs (son_number F i) → ((q : ℕ) → is_visited visited q ≡ false → Untouched ws fs q) → (broken : Broken k old (after old ws fs) visited lo (length fs) h p s node F es us)
+    → AskRight k old level visited b F i (λ n. Answer k height b p F i node n e ws ws3 fs fs2 visited visited2 g (son_number F (suc i))) → AskLeft k old level visited b F i (λ j n. Answer k height b p F j n node e ws ws3 fs fs2 visited visited2 g (son_number F j))
     → SettledSon k height b old (after old ws fs) (length fs) h p es visited visited2 broken.mids e ws3 fs2 g
 treat_son k height old visited visited2 lo h level p s node F e g ws ws3 fs fs2 es us b i order level_is some low s_is between mine untouched broken right left =
     ⊎_elim
@@ -83,10 +83,10 @@ treat_son k height old visited visited2 lo h level p s node F e g ws ws3 fs fs2 
     record {
       G = done.1.treated;
       son = record {
-        treated = treated_right k old visited h s node F done.1.treated ws (unsettled g ws3) fs fs2 es broken.mids b i order mine.kept (untouched (son_at F (suc i)) br.beside.unvisited).kept br done.1.treats;
-        t = son_at F (suc i);
+        treated = treated_right k old visited h s node F done.1.treated ws (unsettled g ws3) fs fs2 es broken.mids b i order mine.kept (untouched (son_number F (suc i)) br.beside.unvisited).kept br done.1.treats;
+        t = son_number F (suc i);
         visited_is = done.0;
-        t_in = pair_in (son_at F (suc i)) broken.mids br.sons.at.upre br.sons.at.lefts br.sons.at.rights br.sons.at.upost br.sons.at.us_is (in_right (son_at F (suc i)) br.sons.at.lefts br.sons.at.rights (subst (IsIn (son_at F (suc i))) (sym br.head.us_is) (inl refl)));
+        t_in = pair_in (son_number F (suc i)) broken.mids br.sons.at.upre br.sons.at.lefts br.sons.at.rights br.sons.at.upost br.sons.at.us_is (in_right (son_number F (suc i)) br.sons.at.lefts br.sons.at.rights (subst (IsIn (son_number F (suc i))) (sym br.head.us_is) (inl refl)));
       };
       may_be_underfull = done.1.may_be_underfull;
       kept = done.1.kept;
@@ -99,15 +99,15 @@ treat_son k height old visited visited2 lo h level p s node F e g ws ws3 fs fs2 
     at zero is more = absurd (omega (arith, some, is, more))
     at (suc j) is more =
         let i_is : i ≡ suc j = sym is in
-        let br = left_brother k old (after old ws fs) (after old (unsettled g ws3) fs2) visited h s node F es broken.mids b j (s_is ∙ ap (son_at F) i_is) (omega (arith, low, is)) broken.loses.left.apart.1 between broken.fan in
+        let br = left_brother k old (after old ws fs) (after old (unsettled g ws3) fs2) visited h s node F es broken.mids b j (s_is ∙ ap (son_number F) i_is) (omega (arith, low, is)) broken.loses.left.apart.1 between broken.fan in
         let done = left j i_is (omega (arith, low, more)) br.n br.spells (br.head.kind ∙ ap kind_of_level level_is) br.head.within br.beside.unvisited in
         record {
           G = done.1.treated;
           son = record {
-            treated = treated_left k old visited h s node F done.1.treated ws (unsettled g ws3) fs fs2 es broken.mids b j order (untouched (son_at F j) br.beside.unvisited).kept (subst (λ (x : ℕ). Untouched ws fs (son_at F x)) i_is mine).kept br done.1.treats;
-            t = son_at F j;
+            treated = treated_left k old visited h s node F done.1.treated ws (unsettled g ws3) fs fs2 es broken.mids b j order (untouched (son_number F j) br.beside.unvisited).kept (subst (λ (x : ℕ). Untouched ws fs (son_number F x)) i_is mine).kept br done.1.treats;
+            t = son_number F j;
             visited_is = done.0;
-            t_in = pair_in (son_at F j) broken.mids br.sons.at.upre br.sons.at.lefts br.sons.at.rights br.sons.at.upost br.sons.at.us_is (in_left (son_at F j) br.sons.at.lefts br.sons.at.rights (subst (IsIn (son_at F j)) (sym br.head.us_is) (inl refl)));
+            t_in = pair_in (son_number F j) broken.mids br.sons.at.upre br.sons.at.lefts br.sons.at.rights br.sons.at.upost br.sons.at.us_is (in_left (son_number F j) br.sons.at.lefts br.sons.at.rights (subst (IsIn (son_number F j)) (sym br.head.us_is) (inl refl)));
           };
           may_be_underfull = done.1.may_be_underfull;
           kept = done.1.kept;

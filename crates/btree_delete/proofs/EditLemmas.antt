@@ -8,7 +8,7 @@ use Rattle.btree_node.specs.declared.node.Node.{Node}
 use Rattle.btree_node.specs.Cut.{left_of, right_of}
 use Rattle.btree_node.specs.Joined.{half_of_both}
 use Rattle.btree_node.specs.Spelling.{spelling}
-use Rattle.btree_delete.specs.Treatment.{son_at, both, Treats, brothers}
+use Rattle.btree_delete.specs.Treatment.{son_number, both, Treats, brothers}
 use Rattle.btree_delete.specs.Tidy.{is_visited, Visited, Untouched, IsTidy, done_so_far}
 use Rattle.btree_insert.proofs.EditFitLemmas.{or_true}
 use Rattle.btree_delete.proofs.EditedPagesLemmas.{or_right}
@@ -137,39 +137,39 @@ tidy_free pages visited ws fs n used visited_is unwritten tidy = record {
 }
 
 -- two pages treated: one rewritten and one freed, or both rewritten
-pub treats_tidy : (pages : List (Option (List ℕ))) (visited : List ℕ) (k i : ℕ) (F G L R : Node) (ws ws2 : List (ℕ × List ℕ)) (fs fs2 : List ℕ) → IsSome (at pages (son_at F i)) → IsSome (at pages (son_at F (suc i))) → is_visited visited (son_at F i) ≡ true → is_visited visited (son_at F (suc i)) ≡ true
-    → (son_at F i ≡ son_at F (suc i) → ⊥) → Untouched ws fs (son_at F i) → Untouched ws fs (son_at F (suc i)) → Treats k F G (brothers i L R) (done_so_far ws fs) (done_so_far ws2 fs2) → IsTidy pages visited ws fs → IsTidy pages visited ws2 fs2
+pub treats_tidy : (pages : List (Option (List ℕ))) (visited : List ℕ) (k i : ℕ) (F G L R : Node) (ws ws2 : List (ℕ × List ℕ)) (fs fs2 : List ℕ) → IsSome (at pages (son_number F i)) → IsSome (at pages (son_number F (suc i))) → is_visited visited (son_number F i) ≡ true → is_visited visited (son_number F (suc i)) ≡ true
+    → (son_number F i ≡ son_number F (suc i) → ⊥) → Untouched ws fs (son_number F i) → Untouched ws fs (son_number F (suc i)) → Treats k F G (brothers i L R) (done_so_far ws fs) (done_so_far ws2 fs2) → IsTidy pages visited ws fs → IsTidy pages visited ws2 fs2
 treats_tidy pages visited k i F G L R ws ws2 fs fs2 left_used right_used left_visited right_visited other left right (inl done) tidy =
     let page = spelling (both F i L R) k in
-    let wrote = tidy_write pages visited ws fs (son_at F i) page left_used left_visited left.kept tidy in
-    let unwritten = (untouched_write ws fs (son_at F i) page (son_at F (suc i)) right (λ e. other (sym e))).unwritten in
-    rw (done.wrote, done.frees) (tidy_free pages visited (ws ++ (son_at F i, page) ∷ []) fs (son_at F (suc i)) right_used right_visited unwritten wrote)
+    let wrote = tidy_write pages visited ws fs (son_number F i) page left_used left_visited left.kept tidy in
+    let unwritten = (untouched_write ws fs (son_number F i) page (son_number F (suc i)) right (λ e. other (sym e))).unwritten in
+    rw (done.wrote, done.frees) (tidy_free pages visited (ws ++ (son_number F i, page) ∷ []) fs (son_number F (suc i)) right_used right_visited unwritten wrote)
 treats_tidy pages visited k i F G L R ws ws2 fs fs2 left_used right_used left_visited right_visited other left right (inr done) tidy =
     let left_page = spelling (left_of (half_of_both L R) (both F i L R)) k in
     let right_page = spelling (right_of (half_of_both L R) (both F i L R)) k in
-    let wrote = tidy_write pages visited ws fs (son_at F i) left_page left_used left_visited left.kept tidy in
-    rw (done.wrote, done.frees) (tidy_write pages visited (ws ++ (son_at F i, left_page) ∷ []) fs (son_at F (suc i)) right_page right_used right_visited right.kept wrote)
+    let wrote = tidy_write pages visited ws fs (son_number F i) left_page left_used left_visited left.kept tidy in
+    rw (done.wrote, done.frees) (tidy_write pages visited (ws ++ (son_number F i, left_page) ∷ []) fs (son_number F (suc i)) right_page right_used right_visited right.kept wrote)
 
 -- treating two sons leaves other pages untouched
-pub treats_others : (q k i : ℕ) (F G L R : Node) (ws ws2 : List (ℕ × List ℕ)) (fs fs2 : List ℕ) → (q ≡ son_at F i → ⊥) → (q ≡ son_at F (suc i) → ⊥) → Treats k F G (brothers i L R) (done_so_far ws fs) (done_so_far ws2 fs2) → Untouched ws fs q → Untouched ws2 fs2 q
+pub treats_others : (q k i : ℕ) (F G L R : Node) (ws ws2 : List (ℕ × List ℕ)) (fs fs2 : List ℕ) → (q ≡ son_number F i → ⊥) → (q ≡ son_number F (suc i) → ⊥) → Treats k F G (brothers i L R) (done_so_far ws fs) (done_so_far ws2 fs2) → Untouched ws fs q → Untouched ws2 fs2 q
 treats_others q k i F G L R ws ws2 fs fs2 not_left not_right (inl done) is =
     let page = spelling (both F i L R) k in
-    rw (done.wrote, done.frees) (untouched_free (ws ++ (son_at F i, page) ∷ []) fs (son_at F (suc i)) q (untouched_write ws fs (son_at F i) page q is not_left) not_right)
+    rw (done.wrote, done.frees) (untouched_free (ws ++ (son_number F i, page) ∷ []) fs (son_number F (suc i)) q (untouched_write ws fs (son_number F i) page q is not_left) not_right)
 treats_others q k i F G L R ws ws2 fs fs2 not_left not_right (inr done) is =
     let left_page = spelling (left_of (half_of_both L R) (both F i L R)) k in
     let right_page = spelling (right_of (half_of_both L R) (both F i L R)) k in
-    rw (done.wrote, done.frees) (untouched_write (ws ++ (son_at F i, left_page) ∷ []) fs (son_at F (suc i)) right_page q (untouched_write ws fs (son_at F i) left_page q is not_left) not_right)
+    rw (done.wrote, done.frees) (untouched_write (ws ++ (son_number F i, left_page) ∷ []) fs (son_number F (suc i)) right_page q (untouched_write ws fs (son_number F i) left_page q is not_left) not_right)
 
 -- a page that was visited and one that was not, treated with the one on the left
-pub treat_tidy_right : (pages : List (Option (List ℕ))) (visited visited2 : List ℕ) (k i : ℕ) (F G L R : Node) (ws ws2 : List (ℕ × List ℕ)) (fs fs2 : List ℕ) → visited2 ≡ visited ++ son_at F (suc i) ∷ [] → is_visited visited (son_at F (suc i)) ≡ false
-    → IsSome (at pages (son_at F i)) → IsSome (at pages (son_at F (suc i))) → is_visited visited (son_at F i) ≡ true → Untouched ws fs (son_at F i) → Treats k F G (brothers i L R) (done_so_far ws fs) (done_so_far ws2 fs2) → IsTidy pages visited ws fs → IsTidy pages visited2 ws2 fs2
+pub treat_tidy_right : (pages : List (Option (List ℕ))) (visited visited2 : List ℕ) (k i : ℕ) (F G L R : Node) (ws ws2 : List (ℕ × List ℕ)) (fs fs2 : List ℕ) → visited2 ≡ visited ++ son_number F (suc i) ∷ [] → is_visited visited (son_number F (suc i)) ≡ false
+    → IsSome (at pages (son_number F i)) → IsSome (at pages (son_number F (suc i))) → is_visited visited (son_number F i) ≡ true → Untouched ws fs (son_number F i) → Treats k F G (brothers i L R) (done_so_far ws fs) (done_so_far ws2 fs2) → IsTidy pages visited ws fs → IsTidy pages visited2 ws2 fs2
 treat_tidy_right pages visited visited2 k i F G L R ws ws2 fs fs2 visited_is unvisited left_used right_used left_visited left done tidy =
-    rw visited_is (treats_tidy pages (visited ++ son_at F (suc i) ∷ []) k i F G L R ws ws2 fs fs2 left_used right_used (visited_stays visited (son_at F (suc i)) (son_at F i) left_visited) (visited_here visited (son_at F (suc i)))
-    (visited_differs visited (son_at F i) (son_at F (suc i)) left_visited unvisited) left (tidy.unvisited (son_at F (suc i)) unvisited) done (tidy_visited pages visited (son_at F (suc i)) ws fs tidy))
+    rw visited_is (treats_tidy pages (visited ++ son_number F (suc i) ∷ []) k i F G L R ws ws2 fs fs2 left_used right_used (visited_stays visited (son_number F (suc i)) (son_number F i) left_visited) (visited_here visited (son_number F (suc i)))
+    (visited_differs visited (son_number F i) (son_number F (suc i)) left_visited unvisited) left (tidy.unvisited (son_number F (suc i)) unvisited) done (tidy_visited pages visited (son_number F (suc i)) ws fs tidy))
 
 -- with the one on the right
-pub treat_tidy_left : (pages : List (Option (List ℕ))) (visited visited2 : List ℕ) (k i : ℕ) (F G L R : Node) (ws ws2 : List (ℕ × List ℕ)) (fs fs2 : List ℕ) → visited2 ≡ visited ++ son_at F i ∷ [] → is_visited visited (son_at F i) ≡ false
-    → IsSome (at pages (son_at F i)) → IsSome (at pages (son_at F (suc i))) → is_visited visited (son_at F (suc i)) ≡ true → Untouched ws fs (son_at F (suc i)) → Treats k F G (brothers i L R) (done_so_far ws fs) (done_so_far ws2 fs2) → IsTidy pages visited ws fs → IsTidy pages visited2 ws2 fs2
+pub treat_tidy_left : (pages : List (Option (List ℕ))) (visited visited2 : List ℕ) (k i : ℕ) (F G L R : Node) (ws ws2 : List (ℕ × List ℕ)) (fs fs2 : List ℕ) → visited2 ≡ visited ++ son_number F i ∷ [] → is_visited visited (son_number F i) ≡ false
+    → IsSome (at pages (son_number F i)) → IsSome (at pages (son_number F (suc i))) → is_visited visited (son_number F (suc i)) ≡ true → Untouched ws fs (son_number F (suc i)) → Treats k F G (brothers i L R) (done_so_far ws fs) (done_so_far ws2 fs2) → IsTidy pages visited ws fs → IsTidy pages visited2 ws2 fs2
 treat_tidy_left pages visited visited2 k i F G L R ws ws2 fs fs2 visited_is unvisited left_used right_used right_visited right done tidy =
-    rw visited_is (treats_tidy pages (visited ++ son_at F i ∷ []) k i F G L R ws ws2 fs fs2 left_used right_used (visited_here visited (son_at F i)) (visited_stays visited (son_at F i) (son_at F (suc i)) right_visited)
-    (λ e. visited_differs visited (son_at F (suc i)) (son_at F i) right_visited unvisited (sym e)) (tidy.unvisited (son_at F i) unvisited) right done (tidy_visited pages visited (son_at F i) ws fs tidy))
+    rw visited_is (treats_tidy pages (visited ++ son_number F i ∷ []) k i F G L R ws ws2 fs fs2 left_used right_used (visited_here visited (son_number F i)) (visited_stays visited (son_number F i) (son_number F (suc i)) right_visited)
+    (λ e. visited_differs visited (son_number F (suc i)) (son_number F i) right_visited unvisited (sym e)) (tidy.unvisited (son_number F i) unvisited) right done (tidy_visited pages visited (son_number F i) ws fs tidy))

@@ -1,7 +1,7 @@
 -- The pages after an edit that grows.
 use Rattle.std.proofs.Common.{◌≡◌, ℕ, Bool, true, false, ◌||◌, cond, eqb, Option, Some, None, List, [], ◌∷◌, ◌++◌, refl, ap, sym, ◌∙◌, arith, eq-eqb}
 use Rattle.std.proofs.lemmas.Bool.Decides.{nat_tests}
-use Rattle.page_store.specs.PageMap.{PageMap, write_page, overlay, free_all, after, is_written, is_freed}
+use Rattle.page_store.specs.PageMap.{PageMap, write_page, pages_with, free_all, after, is_written, is_freed}
 use Rattle.btree_insert.proofs.SettledTreeLemmas.{overlay_push}
 use Rattle.btree_delete.specs.Tidy.{Untouched}
 
@@ -32,7 +32,7 @@ free_write pages (f ∷ fs) n page q kept =
 -- a page that is not freed, written last
 pub after_write : (pages : PageMap) (ws : List (ℕ × List ℕ)) (fs : List ℕ) (n : ℕ) (page : List ℕ) → is_freed fs n ≡ false → after pages (ws ++ (n, page) ∷ []) fs ≡ write_page (after pages ws fs) n page
 after_write pages ws fs n page kept =
-    λ i q. (ap (λ (m : PageMap). free_all m fs q) (overlay_push pages ws (n, page)) ∙ free_write (overlay pages ws) fs n page q kept) i
+    λ i q. (ap (λ (m : PageMap). free_all m fs q) (overlay_push pages ws (n, page)) ∙ free_write (pages_with pages ws) fs n page q kept) i
 
 both_none : (b c : Bool) (rest : Option (List ℕ)) → cond b None (cond c None rest) ≡ cond c None (cond b None rest)
 both_none true true rest = refl
@@ -50,7 +50,7 @@ free_push pages (f ∷ fs) n q =
 
 -- the pages after one more is freed
 pub after_free : (pages : PageMap) (ws : List (ℕ × List ℕ)) (fs : List ℕ) (n : ℕ) → after pages ws (fs ++ n ∷ []) ≡ free_page (after pages ws fs) n
-after_free pages ws fs n = λ i q. free_push (overlay pages ws) fs n q i
+after_free pages ws fs n = λ i q. free_push (pages_with pages ws) fs n q i
 
 free_kept : (pages : PageMap) (fs : List ℕ) (q : ℕ) → is_freed fs q ≡ false → free_all pages fs q ≡ pages q
 free_kept pages [] q kept = refl
@@ -64,7 +64,7 @@ free_kept pages (f ∷ fs) q kept =
 write_kept : (pages : PageMap) (n : ℕ) (page : List ℕ) (q : ℕ) → eqb q n ≡ false → write_page pages n page q ≡ pages q
 write_kept pages n page q is = ap (λ (b : Bool). cond b (Some page) (pages q)) is
 
-overlay_kept : (pages : PageMap) (ws : List (ℕ × List ℕ)) (q : ℕ) → is_written ws q ≡ false → overlay pages ws q ≡ pages q
+overlay_kept : (pages : PageMap) (ws : List (ℕ × List ℕ)) (q : ℕ) → is_written ws q ≡ false → pages_with pages ws q ≡ pages q
 overlay_kept pages [] q kept = refl
 overlay_kept pages (w ∷ ws) q kept =
     overlay_kept (write_page pages w.0 w.1) ws q (or_right (eqb q w.0) (is_written ws q) kept)
@@ -76,7 +76,7 @@ overlay_kept pages (w ∷ ws) q kept =
 
 -- a page that is not touched
 pub after_untouched : (pages : PageMap) (ws : List (ℕ × List ℕ)) (fs : List ℕ) (q : ℕ) → Untouched ws fs q → after pages ws fs q ≡ pages q
-after_untouched pages ws fs q is = free_kept (overlay pages ws) fs q is.kept ∙ overlay_kept pages ws q is.unwritten
+after_untouched pages ws fs q is = free_kept (pages_with pages ws) fs q is.kept ∙ overlay_kept pages ws q is.unwritten
 
 -- an edit that does nothing leaves the pages
 pub after_none : (pages : PageMap) (ws : List (ℕ × List ℕ)) (fs : List ℕ) → ws ≡ [] → fs ≡ [] → after pages ws fs ≡ pages

@@ -11,7 +11,7 @@ use Rattle.btree_insert.specs.declared.bounds.Bounds.{Bounds}
 use Rattle.btree_insert.specs.Bounds.{Over, Under, Between}
 use Rattle.btree_insert.specs.Contents.{by_order, lookup_in, set_in}
 use Rattle.btree_insert.proofs.ElementMapLemmas.{greater_if_below, less_if_below, same_key, by_order-append, remove_each, remove-ascends}
-use Rattle.btree_delete.specs.Subtrees.{behind}
+use Rattle.btree_delete.specs.Subtrees.{behind_element}
 
 remove_after : (key : List ℕ) (pre es : List Element) → Each (λ e. Below e.0 key) pre → set_in key None (pre ++ es) ≡ pre ++ set_in key None es
 remove_after key [] es below = refl
@@ -76,7 +76,7 @@ remove-absent key [] none = refl
 remove-absent key (e ∷ es) none = remove_absent_by e es (set_in key None es) key (slice_cmp nat_cmp key e.0) none (λ later. remove-absent key es later)
 
 -- what is left behind the first element
-pub between_behind : (b : Bounds) (e : Element) (es : List Element) → Between b (e ∷ es) → Between (behind e b) es
+pub between_behind : (b : Bounds) (e : Element) (es : List Element) → Between b (e ∷ es) → Between (behind_element e b) es
 between_behind b e es is = record {
   ascends = is.ascends.1;
   within = record { over = is.ascends.0; under = is.within.under.1 };

@@ -16,7 +16,7 @@ use Rattle.btree_insert.proofs.Membership.{each_in, in_each}
 use Rattle.btree_delete.specs.declared.deletion.subtree.Subtree.{Subtree}
 use Rattle.btree_delete.specs.Treatment.{element_at}
 use Rattle.btree_delete.specs.Shrinking.{MayBeUnderfull, UnderfullGoesUp, MayGoUp, LeavesTree, RemovesBelow, StaysUnvisited, gone, sought, Removal}
-use Rattle.btree_delete.specs.Subtrees.{behind, left_bounds, head_page}
+use Rattle.btree_delete.specs.Subtrees.{behind_element, left_bounds, head_page}
 use Rattle.btree_delete.specs.Tidy.{is_visited, visits, done_so_far}
 use Rattle.btree_delete.specs.PagesLeft.{pages_freed}
 use Rattle.btree_delete.proofs.ElementRemovalLemmas.{remove-here, remove-between_bounds, between_behind}
@@ -109,7 +109,7 @@ pub left_between : (key : Option (List ℕ)) (e : Element) (b : Bounds) (es : Li
 left_between (Some given) e b es some is between = remove-between_bounds b given es between
 left_between None e b [] some is between = absurd (omega arith)
 left_between None e b (x ∷ es) some is between =
-    subst (λ (zs : List Element). Between (behind e b) zs) (sym (remove-here x.0 [] x es tt refl)) (subst (λ (key : List ℕ). Between (record { low = Some key; high = b.high }) es) (sym is) (between_behind b x es between))
+    subst (λ (zs : List Element). Between (behind_element e b) zs) (sym (remove-here x.0 [] x es tt refl)) (subst (λ (key : List ℕ). Between (record { low = Some key; high = b.high }) es) (sym is) (between_behind b x es between))
 
 -- a node without what went is within the bounds of what is left
 pub left_may_be_underfull : (key : Option (List ℕ)) (k height i : ℕ) (b : Bounds) (n : Node) (e : Element) → (key ≡ None → i ≡ 0) → MayBeUnderfull k height b n → IsWithin (son_bounds n.elements.items i b) e.0 → MayBeUnderfull k height (left_bounds key e b) n
@@ -119,7 +119,7 @@ left_may_be_underfull None k height i b n e first may_be_underfull within = behi
 -- the bounds of a son of what is left
 pub left_son : (key : Option (List ℕ)) (els : List Element) (i : ℕ) (b : Bounds) (e : Element) → (key ≡ None → i ≡ 0) → left_bounds key e (son_bounds els i b) ≡ son_bounds els i (left_bounds key e b)
 left_son (Some given) els i b e first = refl
-left_son None els i b e first = subst (λ (j : ℕ). behind e (son_bounds els j b) ≡ son_bounds els j (behind e b)) (sym (first refl)) (sym (first_son_bounds els b e))
+left_son None els i b e first = subst (λ (j : ℕ). behind_element e (son_bounds els j b) ≡ son_bounds els j (behind_element e b)) (sym (first refl)) (sym (first_son_bounds els b e))
 
 -- the element that goes from a page stands there under the key
 pub sought_here : (k : ℕ) (pages : PageMap) (h : ℕ) (n : Node) (es : List Element) (us : List ℕ) (key : Option (List ℕ)) (i : ℕ) → Body (TreeAt k pages k h) h n es us → ((given : List ℕ) → key ≡ Some given → (element_at n i).0 ≡ given) → (key ≡ None → i ≡ 0) → (key ≡ None → h ≡ 0)
@@ -138,7 +138,7 @@ pub some_around : (es pre xs post : List Element) → es ≡ pre ++ (xs ++ post)
 some_around es pre xs post es_is some = omega (arith, ap length es_is, length-append pre (xs ++ post), length-append xs post, some)
 
 -- what goes up behind an element
-pub goes_left : (key : Option (List ℕ)) (k height n : ℕ) (b : Bounds) (e : Element) (ws : List (ℕ × List ℕ)) (fs : List ℕ) (g : Removal) → UnderfullGoesUp k height b n ws fs g → (key ≡ None → UnderfullGoesUp k height (behind e b) n ws fs g) → UnderfullGoesUp k height (left_bounds key e b) n ws fs g
+pub goes_left : (key : Option (List ℕ)) (k height n : ℕ) (b : Bounds) (e : Element) (ws : List (ℕ × List ℕ)) (fs : List ℕ) (g : Removal) → UnderfullGoesUp k height b n ws fs g → (key ≡ None → UnderfullGoesUp k height (behind_element e b) n ws fs g) → UnderfullGoesUp k height (left_bounds key e b) n ws fs g
 goes_left (Some given) k height n b e ws fs g goes first = goes
 goes_left None k height n b e ws fs g goes first = first refl
 

@@ -10,7 +10,7 @@ use Rattle.btree_node.specs.Layout.{first_version, first_layout, second_layout, 
 use Rattle.btree_node.specs.Spelling.{spelling, spelling_in}
 use Rattle.btree_insert.specs.declared.tree.TreeFault.{TreeFault}
 use Rattle.btree_insert.specs.declared.tree.TreeFault.TheVariants.{Device}
-use Rattle.btree_insert.specs.Growth.{IsOutside}
+use Rattle.btree_insert.specs.Growth.{IsNotOfPages}
 use Rattle.btree_insert.specs.PageTrees.{SpellsIn, Spells}
 use Rattle.btree_insert.specs.Spelt.{AreSpeltIn}
 use Rattle.btree_delete.specs.CleanFile.{in_file}
@@ -66,8 +66,8 @@ in_pages layout k n v bits m kept unread spells = record { page = (kept.unread n
 pub in_store : (layout : Layout) (k n : ℕ) (v : PagesView) (bits : List Bool) (m : Node) → AreKept layout k v bits → get_or bits n true ≡ false → SpellsIn layout k (at v.pages) n m → SpellsIn layout k (stored_page v) n m
 in_store layout k n v bits m kept unread spells = record { page = sym (kept.unread n unread).0 ∙ spells.page; stands = spells.stands }
 
-pub outside : (fault : TreeFault) → fault ≡ Device → IsOutside fault
-outside fault is = subst IsOutside (sym is) tt
+pub outside : (fault : TreeFault) → fault ≡ Device → IsNotOfPages fault
+outside fault is = subst IsNotOfPages (sym is) tt
 
 none_reached : (count q : ℕ) → get_or (none_of count) q false ≡ false
 none_reached zero q = refl

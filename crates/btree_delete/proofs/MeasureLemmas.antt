@@ -13,7 +13,7 @@ use Rattle.btree_insert.proofs.BoundLemmas.{Between-all}
 use Rattle.btree_insert.proofs.SonsAroundLemmas.{Stands}
 use Rattle.btree_insert.proofs.ChangedTreeLemmas.{in_use_in}
 use Rattle.btree_insert.proofs.Membership.{in_each}
-use Rattle.btree_delete.specs.Survey.{SeenSoFar, mark, AreUnvisited, unreached, after, below_page, Sound, Surveyed, none_of, leaf_of, height_of, seen_of, IsRooted, WentThrough, Measured, allowed}
+use Rattle.btree_delete.specs.Survey.{SeenSoFar, mark, AreUnvisited, unreached, seen_past, below_page, Sound, Surveyed, none_of, first_leaf_level, height_of, seen_of, IsRooted, WentThrough, Measured, allowed}
 use Rattle.btree_delete.proofs.SurveyLemmas.{unreached_set}
 use Rattle.btree_delete.proofs.FreeNumberLemmas.{within, one_less}
 
@@ -139,8 +139,8 @@ sound_root layout k pages h root es us start order most start_is rooted =
     )
 
 -- what is seen after a whole tree
-pub seen_after : (count h : ℕ) (es : List Element) (us : List ℕ) (start : SeenSoFar) → start ≡ record { reached = none_of count; leaf = None; keys = 0 } → after (18 - h) es us start ≡ seen_of count (suc h) es us
-seen_after count h es us start start_is = ap (after (18 - h) es us) start_is ∙ from_none (length es)
+pub seen_after : (count h : ℕ) (es : List Element) (us : List ℕ) (start : SeenSoFar) → start ≡ record { reached = none_of count; leaf = None; keys = 0 } → seen_past (18 - h) es us start ≡ seen_of count (suc h) es us
+seen_after count h es us start start_is = ap (seen_past (18 - h) es us) start_is ∙ from_none (length es)
   where
     zero_left : (n : ℕ) → 0 + n ≡ n
     zero_left n = omega arith
@@ -163,7 +163,7 @@ rooted_found layout k pages root start new reads reads' start_is sub =
         apart = unvisited_apart sub.us start.reached sub.sound.unvisited;
       };
       low = omega (arith, sub.sound.levels);
-      is = sub.is ∙ ap (λ (l : ℕ). after l sub.es sub.us start) level_is ∙ seen_after (length pages) sub.h sub.es sub.us start start_is;
+      is = sub.is ∙ ap (λ (l : ℕ). seen_past l sub.es sub.us start) level_is ∙ seen_after (length pages) sub.h sub.es sub.us start start_is;
       read = sub.read;
     }
 
@@ -196,7 +196,7 @@ root_height layout k pages root (suc h) es us some rooted = omega arith
 
 -- the tree of a root is sound where the walk begins, and at its end all of it is seen
 abbrev pub SoundRoot : Layout → ℕ → List (Option (List ℕ)) → ℕ → ℕ → List Element → List ℕ → SeenSoFar → Type 0
-SoundRoot layout k pages root height es us start = (h : ℕ) × Sound (below_page layout k (at pages) 1 root) (allowed 18 unbounded) start h (18 - h) es us × (after (18 - h) es us start ≡ seen_of (length pages) height es us)
+SoundRoot layout k pages root height es us start = (h : ℕ) × Sound (below_page layout k (at pages) 1 root) (allowed 18 unbounded) start h (18 - h) es us × (seen_past (18 - h) es us start ≡ seen_of (length pages) height es us)
 
 -- a tree below a root that is a page
 pub rooted_exact : (layout : Layout) (k : ℕ) (pages : List (Option (List ℕ))) (root height : ℕ) (es : List Element) (us : List ℕ) (start : SeenSoFar) → (root ≡ 0 → ⊥) → 0 < k → length pages ≤ 1000001 → start ≡ begin_with (none_of (length pages))
@@ -217,7 +217,7 @@ small_root layout k pages root (suc h) es us order most rooted =
     let low = (sound_root layout k pages h root es us (begin_with (none_of (length pages))) order most refl rooted).0 in
     omega (arith, low)
 
-height_back : (height : ℕ) → height ≤ 19 → height_of (leaf_of height) ≡ height
+height_back : (height : ℕ) → height ≤ 19 → height_of (first_leaf_level height) ≡ height
 height_back zero low = refl
 height_back (suc h) low = omega arith
 

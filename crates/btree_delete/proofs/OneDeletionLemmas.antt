@@ -14,7 +14,7 @@ use Rattle.btree_insert.specs.PageTrees.{TreeAt, Apart, kind_of_level}
 use Rattle.btree_insert.proofs.BoundLemmas.{Between-all}
 use Rattle.btree_insert.proofs.HeadNodeLemmas.{Top}
 use Rattle.btree_insert.proofs.SonsAroundLemmas.{Focus}
-use Rattle.btree_delete.specs.Treatment.{element_at, son_at}
+use Rattle.btree_delete.specs.Treatment.{element_at, son_number}
 use Rattle.btree_delete.specs.Shrinking.{MayBeUnderfull, Drops, Whole}
 use Rattle.btree_delete.specs.Subtrees.{head_page}
 use Rattle.btree_delete.specs.PagesLeft.{pages_freed}
@@ -55,6 +55,6 @@ drop_one k old ws ws2 fs least level h p es us b n i key x level_is h_is order l
 
 pub drop_son : (k : ℕ) (old : PageMap) (ws : List (ℕ × List ℕ)) (fs : List ℕ) (least height h p : ℕ) (es : List Element) (us : List ℕ) (b : Bounds) (n : Node) (i : ℕ) (e : Element) (key : List ℕ) → Apart us → (head : Top k old least height (suc h) p es us b n)
     → (at : Focus (TreeAt k old k (suc h)) (TreeAt k (after old ws fs) k (suc h)) (λ q. after old ws fs q ≡ old q) n.sons.items n.elements.items es head.below key i b)
-    → Drops (head_page k k h (son_at n i)) (pages_freed old (after old ws fs) 0 (length fs)) at.xs at.mine key (Some (Whole e)) → Drops (head_page k least (suc h) p) (pages_freed old (after old ws fs) 0 (length fs)) es us key (Some (Whole e))
+    → Drops (head_page k k h (son_number n i)) (pages_freed old (after old ws fs) 0 (length fs)) at.xs at.mine key (Some (Whole e)) → Drops (head_page k least (suc h) p) (pages_freed old (after old ws fs) 0 (length fs)) es us key (Some (Whole e))
 drop_son k old ws fs least height h p es us b n i e key apart head at drops =
     (drop_whole k old ws fs least height h p es us b n i e [] ([] ++ p ∷ []) key apart head at (record { drops = drops; unvisited = λ q unvisited _. unvisited })).drops

@@ -16,7 +16,7 @@ use Rattle.btree_insert.proofs.VisitedLemmas.{unvisited_below, apart_below}
 use Rattle.btree_delete.specs.declared.deletion.subtree.Subtree.{Subtree}
 use Rattle.btree_delete.specs.Shrinking.{MayBeUnderfull, RemovesBelow, StaysUnvisited, sought, Removal}
 use Rattle.btree_delete.specs.Tidy.{is_visited, visits}
-use Rattle.btree_delete.specs.Treatment.{element_at, son_at}
+use Rattle.btree_delete.specs.Treatment.{element_at, son_number}
 use Rattle.btree_delete.specs.Subtrees.{head_page, son_tree, left_bounds}
 use Rattle.btree_delete.specs.PagesLeft.{pages_freed}
 use Rattle.btree_delete.proofs.BrotherPairLemmas.{Next, next}
@@ -106,7 +106,7 @@ called_son t t2 pages pages2 visited visited2 key least es us n i h new Same mov
     let place = sought_place t.order P h n es head.below key i order head.body ascends between.ascends found is_first in
     let son = focus (TreeAt t.order P t.order (suc h)) new Same move n.sons.items n.elements.items es head.below (sought key es) i t.bounds head.body.1 between place in
     let us_is = head.us_is ∙ ap (λ vs. t.page ∷ vs) son.us_is in
-    let some = tree_some t.order P t.order (suc h) (son_at n i) son.xs son.mine order order son.here in
+    let some = tree_some t.order P t.order (suc h) (son_number n i) son.xs son.mine order order son.here in
     record {
       head = head;
       son = son;
@@ -153,7 +153,7 @@ called_next t t2 pages visited least es us below n i h new Same move order up no
       head = head;
       son = son;
       us_is = us_is;
-      some = tree_some t.order P t.order (suc h) (son_at n (suc i)) son.xs son.mine order order son.here;
+      some = tree_some t.order P t.order (suc h) (son_number n (suc i)) son.xs son.mine order order son.here;
       unvisited = unvisited;
       called = record {
         tree_is = tree_is ∙ ap (son_tree t n) (omega arith);
@@ -183,7 +183,7 @@ asked_left X t t2 ps ps2 visited F i tree_is ps_is asked =
 
 -- a page below whose son an element was taken out, which left the son underfull
 pub record BelowShort (t : Subtree) (old : PageMap) (ws : List (ℕ × List ℕ)) (fs : List ℕ) (key : Option (List ℕ)) (es : List Element) (us : List ℕ) (n : Node) (i h : ℕ) (e : Element) (son : Node) (visited visited2 : List ℕ) : Type 0 where
-  pub broken : Broken t.order old (after old ws fs) visited2 0 (length fs) h t.page (son_at n i) son n (set_in (sought key es) None es) us
+  pub broken : Broken t.order old (after old ws fs) visited2 0 (length fs) h t.page (son_number n i) son n (set_in (sought key es) None es) us
   pub value : lookup_in (sought key es) es ≡ Some e.1
   pub key_is : e.0 ≡ sought key es
   pub between : Between (left_bounds key e t.bounds) (set_in (sought key es) None es)
@@ -195,7 +195,7 @@ pub record BelowShort (t : Subtree) (old : PageMap) (ws : List (ℕ × List ℕ)
 
 -- the same of the son behind an element, which the next greater one took the place of
 pub record BehindShort (t : Subtree) (old : PageMap) (ws : List (ℕ × List ℕ)) (fs : List ℕ) (es : List Element) (us : List ℕ) (n m : Node) (i h : ℕ) (son : Node) (visited visited2 : List ℕ) : Type 0 where
-  pub broken : Broken t.order old (after old ws fs) visited2 0 (length fs) h t.page (son_at n (suc i)) son m (set_in (element_at n i).0 None es) us
+  pub broken : Broken t.order old (after old ws fs) visited2 0 (length fs) h t.page (son_number n (suc i)) son m (set_in (element_at n i).0 None es) us
   pub value : lookup_in (element_at n i).0 es ≡ Some (element_at n i).1
   pub between : Between t.bounds (set_in (element_at n i).0 None es)
   pub inner : n.kind ≡ Inner

@@ -15,7 +15,7 @@ use Rattle.btree_insert.proofs.BoundLemmas.{Between-left, Between-right}
 use Rattle.btree_insert.proofs.ReachLemmas.{Between-join, last_fan, more_fan, head_within}
 use Rattle.btree_insert.proofs.HeadNodeLemmas.{body_each}
 use Rattle.btree_insert.proofs.SonsLemmas.{fan_last, fan_first}
-use Rattle.btree_delete.specs.Survey.{SeenSoFar, mark, AreUnvisited, unreached, after, below_page, below_sons, Sound, Surveyed, allowed}
+use Rattle.btree_delete.specs.Survey.{SeenSoFar, mark, AreUnvisited, unreached, seen_past, below_page, below_sons, Sound, Surveyed, allowed}
 
 -- one more page was reached
 pub unreached_set : (bits : List Bool) (n : ℕ) → get_or bits n true ≡ false → unreached (set bits n true) + 1 ≡ unreached bits
@@ -67,7 +67,7 @@ with_key s = record s { keys = s.keys + 1 }
 add_up : (k : ℕ) (xs : List Element) (e : Element) (ys : List Element) → k + length (xs ++ e ∷ ys) ≡ ((k + length xs) + 1) + length ys
 add_up k xs e ys = let size = length-append xs (e ∷ ys) in omega arith
 
-after_both : (level : ℕ) (xs : List Element) (e : Element) (ys : List Element) (us vs : List ℕ) (s : SeenSoFar) → after level (xs ++ e ∷ ys) (us ++ vs) s ≡ after level ys vs (with_key (after level xs us s))
+after_both : (level : ℕ) (xs : List Element) (e : Element) (ys : List Element) (us vs : List ℕ) (s : SeenSoFar) → seen_past level (xs ++ e ∷ ys) (us ++ vs) s ≡ seen_past level ys vs (with_key (seen_past level xs us s))
 after_both level xs e ys us vs s = λ i. record {
   reached = mark-append us vs s.reached i;
   leaf = Some level;
@@ -122,7 +122,7 @@ inner_found layout k pages least left p b n old reached new reads reads1 reads' 
     unvisited = (unvisited, subst (λ (s : SeenSoFar). AreUnvisited sub.us s.reached) reached_is sub.sound.unvisited);
     leaf = subst (λ (s : SeenSoFar). (s.leaf ≡ None) ⊎ (s.leaf ≡ Some sub.level)) reached_is sub.sound.leaf;
   };
-  is = sub.is ∙ ap (λ (s : SeenSoFar). after sub.level sub.es sub.us s) reached_is;
+  is = sub.is ∙ ap (λ (s : SeenSoFar). seen_past sub.level sub.es sub.us s) reached_is;
   read = sub.read ∙ ap (λ (r : ℕ). counted_times r (length sub.us)) one ∙ counted_before reads (length sub.us);
 }
 
@@ -167,10 +167,10 @@ leaf_exact layout k pages least left p b n old (suc h) level es us kind sound to
 
 -- what is seen after a leaf
 pub leaf_after : (level left p : ℕ) (n : Node) (es : List Element) (us : List ℕ) (old reached new : SeenSoFar) → level ≡ left → es ≡ n.elements.items → us ≡ p ∷ [] → reached ≡ record old { reached = set old.reached p true }
-    → new ≡ record { reached = reached.reached; leaf = Some left; keys = reached.keys + length n.elements.items } → new ≡ after level es us old
+    → new ≡ record { reached = reached.reached; leaf = Some left; keys = reached.keys + length n.elements.items } → new ≡ seen_past level es us old
 leaf_after level left p n es us old reached new level_is es_is us_is reached_is new_is =
     new_is ∙ ap (with_leaf left (length n.elements.items)) reached_is
-    ∙ ap (λ (l : ℕ). after l n.elements.items (p ∷ []) old) (sym level_is) ∙ ap (λ (xs : List Element). after level xs (p ∷ []) old) (sym es_is) ∙ ap (λ (vs : List ℕ). after level es vs old) (sym us_is)
+    ∙ ap (λ (l : ℕ). seen_past l n.elements.items (p ∷ []) old) (sym level_is) ∙ ap (λ (xs : List Element). seen_past level xs (p ∷ []) old) (sym es_is) ∙ ap (λ (vs : List ℕ). seen_past level es vs old) (sym us_is)
 
 -- what the sons of an inner page come to
 pub record Down (layout : Layout) (k : ℕ) (pages : PageMap) (left p : ℕ) (b : Bounds) (n : Node) (old reached : SeenSoFar) (h level : ℕ) (es : List Element) (us : List ℕ) : Type 0 where
@@ -178,7 +178,7 @@ pub record Down (layout : Layout) (k : ℕ) (pages : PageMap) (left p : ℕ) (b 
   pub h1 : ℕ
   pub some : 0 < left
   pub sound : Sound (below_sons layout k pages n.sons.items n.elements.items) (allowed (left - 1) b) reached h1 level es below
-  pub back : (new : SeenSoFar) → new ≡ after level es below reached → new ≡ after level es us old
+  pub back : (new : SeenSoFar) → new ≡ seen_past level es below reached → new ≡ seen_past level es us old
 
 -- an inner page whose sons were gone through
 pub inner_exact : (layout : Layout) (k : ℕ) (pages : PageMap) (least left p : ℕ) (b : Bounds) (n : Node) (old reached : SeenSoFar) (h level : ℕ) (es : List Element) (us : List ℕ) → n.kind ≡ Inner → reached ≡ record old { reached = set old.reached p true }
@@ -195,7 +195,7 @@ inner_exact layout k pages least left p b n old reached (suc h) level es us kind
     unvisited = subst (λ (s : SeenSoFar). AreUnvisited top.below s.reached) (sym reached_is) top.rest;
     leaf = subst (λ (s : SeenSoFar). (s.leaf ≡ None) ⊎ (s.leaf ≡ Some level)) (sym reached_is) sound.leaf;
   };
-  back = λ new is. is ∙ ap (λ (s : SeenSoFar). after level es top.below s) reached_is ∙ ap (λ (vs : List ℕ). after level es vs old) (sym top.us_is);
+  back = λ new is. is ∙ ap (λ (s : SeenSoFar). seen_past level es top.below s) reached_is ∙ ap (λ (vs : List ℕ). seen_past level es vs old) (sym top.us_is);
 }
 
 -- the last son was gone through
@@ -237,7 +237,7 @@ more_found layout k pages left b sons els x old first second new r0 r1 r2 some s
     let leaf_is : second.leaf ≡ Some front.level = ap (λ (s : SeenSoFar). s.leaf) one ∙ ap (λ (s : SeenSoFar). s.leaf) front.is in
     let level_is : front.level ≡ back.level = leaf_one second.leaf front.level back.level leaf_is back.sound.leaf in
     let h_is : front.h ≡ back.h = omega (arith, level_is, front.sound.levels, back.sound.levels) in
-    let second_is : second ≡ with_key (after back.level front.es front.us old) = one ∙ ap with_key (front.is ∙ ap (λ (l : ℕ). after l front.es front.us old) level_is) in
+    let second_is : second ≡ with_key (seen_past back.level front.es front.us old) = one ∙ ap with_key (front.is ∙ ap (λ (l : ℕ). seen_past l front.es front.us old) level_is) in
     record {
       h = back.h;
       level = back.level;
@@ -250,7 +250,7 @@ more_found layout k pages left b sons els x old first second new r0 r1 r2 some s
         unvisited = unvisited-append front.us back.us old.reached front.sound.unvisited (subst (λ (s : SeenSoFar). AreUnvisited back.us s.reached) second_is back.sound.unvisited);
         leaf = subst (λ (l : ℕ). (old.leaf ≡ None) ⊎ (old.leaf ≡ Some l)) level_is front.sound.leaf;
       };
-      is = back.is ∙ ap (λ (s : SeenSoFar). after back.level back.es back.us s) second_is ∙ sym (after_both back.level front.es x back.es front.us back.us old);
+      is = back.is ∙ ap (λ (s : SeenSoFar). seen_past back.level back.es back.us s) second_is ∙ sym (after_both back.level front.es x back.es front.us back.us old);
       read = back.read ∙ ap (λ (r : ℕ). counted_times r (length back.us)) front.read ∙ sym (counted_both r0 (length front.us) (length back.us)) ∙ ap (counted_times r0) (both_long front.us back.us);
     }
   where
@@ -264,9 +264,9 @@ pub record Apiece (layout : Layout) (k : ℕ) (pages : PageMap) (left : ℕ) (b 
   pub here : List ℕ
   pub rest : List ℕ
   pub first : Sound (below_page layout k pages k (get_or sons 0 0)) (allowed left (record { low = b.low; high = Some x.0 })) old h level xs here
-  pub more : (reached second : SeenSoFar) → reached ≡ after level xs here old → second ≡ record reached { keys = reached.keys + 1 }
+  pub more : (reached second : SeenSoFar) → reached ≡ seen_past level xs here old → second ≡ record reached { keys = reached.keys + 1 }
       → Sound (below_sons layout k pages (drop 1 sons) (drop 1 els)) (allowed left (record { low = Some x.0; high = b.high })) second h level ys rest
-  pub back : (reached second new : SeenSoFar) → reached ≡ after level xs here old → second ≡ record reached { keys = reached.keys + 1 } → new ≡ after level ys rest second → new ≡ after level es us old
+  pub back : (reached second new : SeenSoFar) → reached ≡ seen_past level xs here old → second ≡ record reached { keys = reached.keys + 1 } → new ≡ seen_past level ys rest second → new ≡ seen_past level es us old
 
 -- one more son gone through, and those behind it
 pub more_exact : (layout : Layout) (k : ℕ) (pages : PageMap) (left : ℕ) (b : Bounds) (sons : List ℕ) (els : List Element) (x : Element) (old : SeenSoFar) (h level : ℕ) (es : List Element) (us : List ℕ) → 0 < length els → x ≡ get_or els 0 x
@@ -296,8 +296,8 @@ more_exact layout k pages left b sons els x old h level es us some x_is sound =
         leaf = inr (ap (λ (s : SeenSoFar). s.leaf) second_is ∙ ap (λ (s : SeenSoFar). s.leaf) reached_is);
       };
       back = λ reached second new reached_is second_is new_is.
-          new_is ∙ ap (λ (s : SeenSoFar). after level one.ys one.rest s) (second_is ∙ ap with_key reached_is) ∙ sym (after_both level one.xs x one.ys one.here one.rest old)
-          ∙ ap (λ (zs : List Element). after level zs (one.here ++ one.rest) old) (sym es_is) ∙ ap (λ (vs : List ℕ). after level es vs old) (sym one.us_is);
+          new_is ∙ ap (λ (s : SeenSoFar). seen_past level one.ys one.rest s) (second_is ∙ ap with_key reached_is) ∙ sym (after_both level one.xs x one.ys one.here one.rest old)
+          ∙ ap (λ (zs : List Element). seen_past level zs (one.here ++ one.rest) old) (sym es_is) ∙ ap (λ (vs : List ℕ). seen_past level es vs old) (sym one.us_is);
     }
 
 -- what a call says of sons, in the words of the caller

@@ -12,7 +12,7 @@ use Rattle.btree_insert.specs.declared.tree.Tree.{Tree}
 use Rattle.btree_insert.specs.declared.tree.TreeFault.{TreeFault}
 use Rattle.btree_insert.specs.declared.tree.TreeFault.TheVariants.{Device as ReadFailed, Damaged as NoTreePage, Memory as NoMemory}
 use Rattle.btree_insert.specs.Contents.{by_order, lookup_in, set_in}
-use Rattle.btree_insert.specs.Faults.{is_device as is_read_fault}
+use Rattle.btree_insert.specs.Faults.{is_tree_device as is_read_fault}
 use Rattle.btree_insert.specs.Inserted.{Inserted, IsRefused}
 use Rattle.btree_insert.specs.PagesGrown.{taking}
 use Rattle.btree_delete.specs.Deleted.{Deleted, MayStop}

@@ -13,8 +13,8 @@ use Rattle.btree_node.specs.Lists.{Element, Ascends}
 use Rattle.btree_insert.specs.declared.tree.Tree.{Tree}
 use Rattle.btree_insert.specs.declared.tree.TreeFault.{TreeFault}
 use Rattle.btree_insert.specs.declared.tree.TreeFault.TheVariants.{Device as ReadFailed, Damaged as NoTreePage, Memory as NoMemory}
-use Rattle.btree_insert.specs.Faults.{AsksNoMemory}
-use Rattle.btree_insert.specs.Growth.{IsOutside}
+use Rattle.btree_insert.specs.Faults.{TreeAsksNoMemory}
+use Rattle.btree_insert.specs.Growth.{IsNotOfPages}
 use Rattle.rec_types.specs.Told.{TellsAll, TellsSome}
 use Rattle.btree_insert.specs.PageTrees.{Holds}
 use Rattle.btree_insert.specs.Contents.{lookup_in, set_in, contents_of}
@@ -197,7 +197,7 @@ got here now key (Ok found) same is call steady =
 got here now key (Err fault) same is call steady = tt
 
 -- and a walk
-pub listed : (X : Type 0) (items : X → List Element) (here now : TableView) (r : Result X TreeFault) → here ≡ now → IsTable here → (IsTrue here.pages.steady → (es : List Element) → (us : List ℕ) → Holds (at here.pages.pages) here.tree es us → MatchResult r (λ list. items list ≡ es) IsOutside)
+pub listed : (X : Type 0) (items : X → List Element) (here now : TableView) (r : Result X TreeFault) → here ≡ now → IsTable here → (IsTrue here.pages.steady → (es : List Element) → (us : List ℕ) → Holds (at here.pages.pages) here.tree es us → MatchResult r (λ list. items list ≡ es) IsNotOfPages)
     → IsTrue now.pages.steady → IfOk (table_answer r) (λ list. items list ≡ maps.entries (table_contents now))
 listed X items here now (Ok list) same is call steady =
     let steady2 = steady_here here now same steady in
@@ -230,7 +230,7 @@ told_some told stops (Ok taken) is = is
 told_some told stops (Err fault) is = is
 
 -- the faults where no memory is asked for
-pub looking_faults : {A : Type 0} (r : Result A TreeFault) → AsksNoMemory r → IfErr (table_answer r) (λ fault. (fault ≡ Device) ⊎ ((page : ℕ) × (fault ≡ Damaged page)))
+pub looking_faults : {A : Type 0} (r : Result A TreeFault) → TreeAsksNoMemory r → IfErr (table_answer r) (λ fault. (fault ≡ Device) ⊎ ((page : ℕ) × (fault ≡ Damaged page)))
 looking_faults (Ok x) asks = tt
 looking_faults (Err ReadFailed) asks = inl refl
 looking_faults (Err (NoTreePage page)) asks = inr (page, refl)

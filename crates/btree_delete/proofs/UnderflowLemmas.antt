@@ -11,7 +11,7 @@ use Rattle.btree_insert.specs.declared.bounds.Bounds.{Bounds}
 use Rattle.btree_insert.specs.PageTrees.{IsIn, Apart, Fan, Body, TreeAt}
 use Rattle.btree_insert.proofs.ChangedTreeLemmas.{body_move, body_cut}
 use Rattle.btree_insert.proofs.Membership.{in_left, in_right, in_either, Apart-left, Apart-right, Apart-across, Apart-insert, each_in}
-use Rattle.btree_delete.specs.Treatment.{element_at, son_at, both}
+use Rattle.btree_delete.specs.Treatment.{element_at, son_number, both}
 use Rattle.btree_delete.specs.Shrinking.{Loses}
 use Rattle.btree_delete.proofs.SonsLemmas.{Kin, IsKept, Part, across, body_join, fan_same}
 use Rattle.btree_delete.proofs.PagesLeftLemmas.{left_set, left_drop, loses_around}
@@ -78,19 +78,19 @@ moved_on u1 u2 c1 c2 p r q same is = ⊎_elim (λ e. inl e) (λ later. inr (move
 -- two brothers below a father, of which one is the underfull son s
 pub record SonPair (k : ℕ) (old mid new : PageMap) (visited : List ℕ) (h s : ℕ) (node F L R : Node) (j : ℕ) (es : List Element) (us : List ℕ) (b : Bounds) : Type 0 where
   pub at : Pair (Kin k old mid visited h s node) (TreeAt k new k (suc h)) (IsKept mid new s) F.sons.items F.elements.items es us j b
-  pub left : Part k mid h (son_at F j) L at.xs at.lefts
-  pub right : Part k mid h (son_at F (suc j)) R at.ys at.rights
+  pub left : Part k mid h (son_number F j) L at.xs at.lefts
+  pub right : Part k mid h (son_number F (suc j)) R at.ys at.rights
   pub apart : Apart us
-  pub differ : son_at F j ≡ son_at F (suc j) → ⊥
+  pub differ : son_number F j ≡ son_number F (suc j) → ⊥
   pub s_in : IsIn s (at.lefts ++ at.rights)
 
 -- the two are treated, and no other page changes
-module _ (k : ℕ) (old mid new : PageMap) (visited : List ℕ) (lo h s : ℕ) (node F G L R : Node) (j : ℕ) (es : List Element) (us : List ℕ) (b : Bounds) (br : SonPair k old mid new visited h s node F L R j es us b) (others : (q : ℕ) → (q ≡ son_at F j → ⊥) → (q ≡ son_at F (suc j) → ⊥) → new q ≡ mid q) where
+module _ (k : ℕ) (old mid new : PageMap) (visited : List ℕ) (lo h s : ℕ) (node F G L R : Node) (j : ℕ) (es : List Element) (us : List ℕ) (b : Bounds) (br : SonPair k old mid new visited h s node F L R j es us b) (others : (q : ℕ) → (q ≡ son_number F j → ⊥) → (q ≡ son_number F (suc j) → ⊥) → new q ≡ mid q) where
   abbrev p : ℕ
-  p = son_at F j
+  p = son_number F j
 
   abbrev r : ℕ
-  r = son_at F (suc j)
+  r = son_number F (suc j)
 
   abbrev u1 : List ℕ
   u1 = br.left.0

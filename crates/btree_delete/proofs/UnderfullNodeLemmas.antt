@@ -20,9 +20,9 @@ use Rattle.btree_insert.proofs.BoundLemmas.{low_first, low_next, high_next, Asce
 use Rattle.btree_insert.proofs.EditFitLemmas.{Each-set}
 use Rattle.btree_insert.proofs.PlaceLemmas.{within_place, son_within}
 use Rattle.btree_insert.proofs.HeadNodeLemmas.{kind_above}
-use Rattle.btree_delete.specs.Treatment.{element_at, son_at, both, Distributes, Treats, brothers}
+use Rattle.btree_delete.specs.Treatment.{element_at, son_number, both, Distributes, Treats, brothers}
 use Rattle.btree_delete.specs.Shrinking.{MayBeUnderfull}
-use Rattle.btree_delete.specs.Subtrees.{behind}
+use Rattle.btree_delete.specs.Subtrees.{behind_element}
 use Rattle.btree_delete.specs.Tidy.{done_so_far}
 use Rattle.btree_insert.proofs.ReachLemmas.{ascends_join}
 use Rattle.btree_insert.proofs.SettledTreeLemmas.{set_split}
@@ -223,7 +223,7 @@ treated_may_be_underfull k level i b F G L R ws ws2 fs fs2 order some low father
     set_may_be_underfull k (level + 1) i b F G y low father (Each_at (Stands i F.elements.items b) J.elements.items half y (both_stand k level i b F L R low father left right) half_is (get_or_default J.elements.items half ([], []) y half_is)) done.kind done.elements done.sons
 
 -- bounds behind an element
-pub set_son_bounds : (els : List Element) (i : ℕ) (b : Bounds) (y : Element) → i < length els → son_bounds (set els i y) (suc i) b ≡ behind y (son_bounds els (suc i) b)
+pub set_son_bounds : (els : List Element) (i : ℕ) (b : Bounds) (y : Element) → i < length els → son_bounds (set els i y) (suc i) b ≡ behind_element y (son_bounds els (suc i) b)
 set_son_bounds els i b y low = λ j. record { low = low_is els i b.low low j; high = high_is els i b.high j }
   where
     low_is : (xs : List Element) (n : ℕ) (bound : Option (List ℕ)) → n < length xs → low_at (set xs n y) (suc n) bound ≡ Some y.0
@@ -237,11 +237,11 @@ set_son_bounds els i b y low = λ j. record { low = low_is els i b.low low j; hi
     high_is (x ∷ xs) (suc n) bound = high_is xs n bound
 
 -- the bounds of the first son of what is left behind an element
-pub first_son_bounds : (els : List Element) (b : Bounds) (e : Element) → son_bounds els 0 (behind e b) ≡ behind e (son_bounds els 0 b)
+pub first_son_bounds : (els : List Element) (b : Bounds) (e : Element) → son_bounds els 0 (behind_element e b) ≡ behind_element e (son_bounds els 0 b)
 first_son_bounds els b e = λ j. record { low = low_first els (Some e.0) j; high = high_at els 0 b.high }
 
 -- a page behind an element that stood below its first son
-pub behind_may_be_underfull : (k height : ℕ) (b : Bounds) (n : Node) (e : Element) → MayBeUnderfull k height b n → IsWithin (son_bounds n.elements.items 0 b) e.0 → MayBeUnderfull k height (behind e b) n
+pub behind_may_be_underfull : (k height : ℕ) (b : Bounds) (n : Node) (e : Element) → MayBeUnderfull k height b n → IsWithin (son_bounds n.elements.items 0 b) e.0 → MayBeUnderfull k height (behind_element e b) n
 behind_may_be_underfull k height b n e may_be_underfull is = record {
   kind = may_be_underfull.kind;
   most = may_be_underfull.most;
@@ -256,7 +256,7 @@ behind_may_be_underfull k height b n e may_be_underfull is = record {
 
 -- a leaf without its first element
 pub leaf_behind : (k : ℕ) (b : Bounds) (n m : Node) (e : Element) → n.kind ≡ Leaf → 0 < length n.elements.items → MayBeUnderfull k 1 b n → e ≡ get_or n.elements.items 0 e → m.kind ≡ n.kind → m.elements.items ≡ remove n.elements.items 0 → m.sons.items ≡ n.sons.items
-    → ElementFits second_layout e × IsWithin b e.0 × MayBeUnderfull k 1 (behind e b) m
+    → ElementFits second_layout e × IsWithin b e.0 × MayBeUnderfull k 1 (behind_element e b) m
 leaf_behind k b n m e leaf some may_be_underfull is kind_is els_is sons_is =
     let without = leaf_without k b n m 0 leaf some may_be_underfull kind_is els_is sons_is in (
       Each_at (ElementFits second_layout) n.elements.items 0 e may_be_underfull.fit some is,
@@ -278,7 +278,7 @@ leaf_behind k b n m e leaf some may_be_underfull is kind_is els_is sons_is =
 -- what levelling two nodes comes to
 pub distributed : (k i : ℕ) (F G L R : Node) (middle up : Element) (l r : Node) (n t : ℕ) (ws ws2 ws3 : List (ℕ × List ℕ)) (fs fs2 : List ℕ) → middle ≡ element_at F i → 2 * k ≤ keys_of_both L R → G.kind ≡ F.kind → G.elements.items ≡ set F.elements.items i up → G.sons.items ≡ F.sons.items
     → l ≡ left_of (half_of_both L R) (joined L middle R) → up ≡ element_at (joined L middle R) (half_of_both L R) → r ≡ right_of (half_of_both L R) (joined L middle R) → CanStand l k → CanStand r k
-    → n ≡ son_at F i → t ≡ son_at F (suc i) → ws2 ≡ ws ++ (n, spelling l k) ∷ [] → ws3 ≡ ws2 ++ (t, spelling r k) ∷ [] → fs2 ≡ fs → Distributes k F G (brothers i L R) (done_so_far ws fs) (done_so_far ws3 fs2)
+    → n ≡ son_number F i → t ≡ son_number F (suc i) → ws2 ≡ ws ++ (n, spelling l k) ∷ [] → ws3 ≡ ws2 ++ (t, spelling r k) ∷ [] → fs2 ≡ fs → Distributes k F G (brothers i L R) (done_so_far ws fs) (done_so_far ws3 fs2)
 distributed k i F G L R middle up l r n t ws ws2 ws3 fs fs2 middle_is many kind_is els_is sons_is l_is up_is r_is l_stands r_stands n_is t_is ws2_is ws3_is fs_is =
     let half = half_of_both L R in
     let left_is : l ≡ left_of half (both F i L R) = l_is ∙ ap (λ (m : Element). left_of half (joined L m R)) middle_is in

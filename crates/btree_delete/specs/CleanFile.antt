@@ -137,22 +137,22 @@ pub record Opens (stored : List (List ℕ)) (tail limit reads : ℕ) (pages : Pa
   pub read : pages.reads ≡ counted_times reads (tree.used + 1)
 
 -- whether a call of the store failed
-abbrev pub is_device_fault : OpenFault → Bool
-is_device_fault Device = true
-is_device_fault BadLength = false
-is_device_fault BadMagic = false
-is_device_fault (BadVersion version) = false
-is_device_fault BadOrder = false
-is_device_fault NotClean = false
-is_device_fault BadHeader = false
-is_device_fault (Damaged page) = false
-is_device_fault WrongCount = false
-is_device_fault TooManyRecords = false
-is_device_fault Memory = false
+abbrev pub is_open_device_fault : OpenFault → Bool
+is_open_device_fault Device = true
+is_open_device_fault BadLength = false
+is_open_device_fault BadMagic = false
+is_open_device_fault (BadVersion version) = false
+is_open_device_fault BadOrder = false
+is_open_device_fault NotClean = false
+is_open_device_fault BadHeader = false
+is_open_device_fault (Damaged page) = false
+is_open_device_fault WrongCount = false
+is_open_device_fault TooManyRecords = false
+is_open_device_fault Memory = false
 
-abbrev pub is_device : {X : Type 0} → Result X OpenFault → Bool
-is_device (Ok x) = false
-is_device (Err fault) = is_device_fault fault
+abbrev pub is_open_device : {X : Type 0} → Result X OpenFault → Bool
+is_open_device (Ok x) = false
+is_open_device (Err fault) = is_open_device_fault fault
 
 -- the fault of a file whose header has a fault
 abbrev pub header_fault : HeaderFault → OpenFault

@@ -25,8 +25,8 @@ abbrev pub closing : TableView → List Step
 closing t = if t.pages.changed then writing_back (memory_pages t.pages) (length t.pages.pages) (header_spelling (header_of t) writing_state) (header_spelling (header_of t) clean_state) else []
 
 -- no closed file, so that opening refuses it
-abbrev pub IsRefused : List (List ℕ) → Type 0
-IsRefused pages = (h : Header) → (tree : Tree) → (es : List Element) → (us : List ℕ) → IsCleanFile pages 0 h tree es us → ⊥
+abbrev pub IsNoCleanFile : List (List ℕ) → Type 0
+IsNoCleanFile pages = (h : Header) → (tree : Tree) → (es : List Element) → (us : List ℕ) → IsCleanFile pages 0 h tree es us → ⊥
 
 -- a closed file
 pub record IsFile (pages : List (List ℕ)) : Type 0 where
@@ -42,7 +42,7 @@ IsNewOrFile pages = (pages ≡ []) ⊎ IsFile pages
 
 -- the old file, or one that opening refuses, or the new one
 abbrev pub IsEither : List (List ℕ) → List (List ℕ) → List (List ℕ) → Type 0
-IsEither old new pages = (pages ≡ old) ⊎ (IsRefused pages ⊎ (pages ≡ new))
+IsEither old new pages = (pages ≡ old) ⊎ (IsNoCleanFile pages ⊎ (pages ≡ new))
 
 -- where tries to carry these steps out stopped, there is one of the three, and carrying them out again leads to what they lead to at once
 pub record StopsAnywhere (steps : List Step) : Type 0 where

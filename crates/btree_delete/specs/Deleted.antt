@@ -1,12 +1,16 @@
 -- What a deletion from a tree comes to.
-use Rattle.std.specs.Prelude.{◌≡◌, ℕ, ◌≤◌, List, Option, None, IsSome}
-use Rattle.page_store.specs.PageMap.{PageMap}
+use Rattle.std.specs.Prelude.{◌≡◌, ℕ, ◌-◌, ◌*◌, ◌≤◌, List, length, Option, None, Result, true, IsTrue, IsSome, IfOk, MatchResult}
+use Rattle.page_store.specs.PageMap.{PageMap, at}
+use Rattle.page_store.specs.PagesView.{PagesView}
 use Rattle.btree_node.specs.Lists.{Element}
 use Rattle.btree_insert.specs.declared.tree.Tree.{Tree}
 use Rattle.btree_insert.specs.declared.tree.TreeFault.{TreeFault}
 use Rattle.btree_insert.specs.declared.tree.TreeFault.TheVariants.{Device, Damaged, Memory}
 use Rattle.btree_insert.specs.Contents.{lookup_in, set_in}
-use Rattle.btree_insert.specs.PageTrees.{Holds}
+use Rattle.btree_insert.specs.PageTrees.{Spells, Holds}
+use Rattle.btree_insert.specs.Reached.{LeadsFrom}
+use Rattle.btree_insert.specs.Spelt.{AreSpeltIn}
+use Rattle.btree_insert.specs.Edits.{Stages}
 use Rattle.btree_delete.specs.PagesLeft.{PagesLeft}
 
 -- the old pages held a tree with the elements es; the new pages hold the next tree, without the key, made of some of the old tree's pages. Answered are the next tree and what stood at the key.
@@ -29,3 +33,14 @@ abbrev pub MayStop : Option (List ℕ) → TreeFault → Type 0
 MayStop stood Device = Unit {0}
 MayStop stood (Damaged page) = ⊥
 MayStop stood Memory = IsSome stood
+
+-- a deletion: a tree that a steady store holds becomes the tree without the key, or it stops, and over any pages the answer is what they led to. The next tree is no larger, and uses no new page; for an absent key nothing changes, and after a fault no page has changed.
+pub record Deletes (tree : Tree) (key : List ℕ) (old : PagesView) (answer : Result (Tree × Option (List ℕ)) TreeFault) (new : PagesView) : Type 0 where
+  pub deleted : IsTrue old.steady → (es : List Element) (us : List ℕ) → Holds (at old.pages) tree es us → MatchResult answer (λ r. Deleted (at old.pages) (at new.pages) tree es us key r) (MayStop (lookup_in key es))
+  pub led : IsTrue old.steady → IfOk answer (λ r. LeadsFrom (Spells tree.order (at old.pages)) key tree.height tree.root r.1)
+  pub smaller : IfOk answer (λ r. IsNoLarger tree r.0)
+  pub spelt : AreSpeltIn tree.order old → AreSpeltIn tree.order new
+  pub absent : IfOk answer (λ r. r.1 ≡ None → (r.0 ≡ tree) × (new.pages ≡ old.pages) × (new.changed ≡ old.changed))
+  pub changed : IfOk answer (λ r. IsSome r.1 → new.changed ≡ true)
+  pub page_count : length new.pages ≡ length old.pages
+  pub stages : Stages (2 * tree.height - 1) old answer new

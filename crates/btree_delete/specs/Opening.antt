@@ -6,15 +6,15 @@ use Rattle.page_store.specs.PagesView.{PagesView, is_in_memory}
 use Rattle.page_store.specs.StoreCalls.{StaysStore}
 use Rattle.page_store.specs.declared.store_state.StoreState.{Ghosts}
 use Rattle.btree_delete.specs.declared.opening.open_fault.OpenFault.{OpenFault}
-use Rattle.btree_delete.specs.CleanFile.{is_device}
+use Rattle.btree_delete.specs.CleanFile.{is_open_device}
 use Rattle.btree_delete.specs.Survey.{stored_page}
 
 -- a store was asked for its shape, or read, once each or not, and the answer tells whether that failed
-pub record Asks {S A : Type 0} (s : Ghosts S) (shape read : Bool) (old : S) (answer : Result A OpenFault) (new : S) : Type 0 where
+pub record AsksStore {S A : Type 0} (s : Ghosts S) (shape read : Bool) (old : S) (answer : Result A OpenFault) (new : S) : Type 0 where
   pub stays : StaysStore s old new
   pub reads : s.reads new ≡ counted (s.reads old) read
   pub shapes : s.shapes new ≡ counted (s.shapes old) shape
-  pub failures : s.failures new ≡ counted (s.failures old) (is_device answer)
+  pub failures : s.failures new ≡ counted (s.failures old) (is_open_device answer)
 
 -- pages of which some may be freed: these are as they are stored, and there are as many pages as are stored
 pub record CanFree (pages : PagesView) (free : ℕ → Bool) : Type 0 where

@@ -15,7 +15,7 @@ use Rattle.btree_delete.specs.declared.deletion.subtree.Subtree.{Subtree}
 use Rattle.btree_delete.specs.declared.deletion.delete_below.Shrunk.{Shrunk}
 use Rattle.btree_delete.specs.declared.deletion.delete_below.Shrunk.TheVariants as shrunk
 use Rattle.btree_delete.specs.PagesLeft.{PagesLeft, PagesFreed}
-use Rattle.btree_delete.specs.Treatment.{son_at, Brothers, Treats}
+use Rattle.btree_delete.specs.Treatment.{son_number, Brothers, Treats}
 use Rattle.btree_delete.specs.Subtrees.{HeadPage, left_bounds}
 use Rattle.btree_delete.specs.Tidy.{is_visited, most_visited, Untouched, IsAwaited, IsTidy, IsVisit, DoneSoFar, done_so_far, Visits}
 
@@ -57,9 +57,9 @@ pub record HasSon (t : Subtree) (f : Node) (i : ℕ) (s : Node) : Type 0 where
 pub record CanTreat (pages : List (Option (List ℕ))) (visited : List ℕ) (done : DoneSoFar) (t : Subtree) (f : Node) (i : ℕ) (s : Node) : Type 0 where
   pub sons : HasSon t f i s
   pub room : length visited < most_visited
-  pub in_use : IsSome (at pages (son_at f i))
+  pub in_use : IsSome (at pages (son_number f i))
   pub tidy : IsTidy pages visited done.writes done.freed
-  pub awaited : IsAwaited visited done (son_at f i)
+  pub awaited : IsAwaited visited done (son_number f i)
 
 -- one page more was visited, and of those that were before only the son's was written or freed
 pub record TreatsSon (pages : List (Option (List ℕ))) (visited : Visits) (old new : DoneSoFar) (son : ℕ) : Type 0 where

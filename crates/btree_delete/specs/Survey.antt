@@ -41,8 +41,8 @@ unreached (true ∷ reached) = unreached reached
 unreached (false ∷ reached) = suc (unreached reached)
 
 -- what was seen after a tree with these elements and pages whose leaves stand at a level
-abbrev pub after : ℕ → List Element → List ℕ → SeenSoFar → SeenSoFar
-after level es us old = record { reached = mark us old.reached; leaf = Some level; keys = old.keys + length es }
+abbrev pub seen_past : ℕ → List Element → List ℕ → SeenSoFar → SeenSoFar
+seen_past level es us old = record { reached = mark us old.reached; leaf = Some level; keys = old.keys + length es }
 
 -- the node that the bytes of a page spell as it is written, and what of it stands from a place on
 abbrev pub node_in : ℕ → List ℕ → Node
@@ -90,7 +90,7 @@ pub record Surveyed (tree : ℕ → List Element → List ℕ → Type 0) (may :
   pub es : List Element
   pub us : List ℕ
   pub sound : Sound tree may old h level es us
-  pub is : new ≡ after level es us old
+  pub is : new ≡ seen_past level es us old
   pub read : reads' ≡ counted_times reads (length us)
 
 -- no page was reached, of so many
@@ -98,9 +98,9 @@ abbrev pub none_of : ℕ → List Bool
 none_of count = replicate count false
 
 -- where the first leaf of a tree of a height stands
-abbrev pub leaf_of : ℕ → Option ℕ
-leaf_of zero = None
-leaf_of (suc h) = Some (greatest_height - 1 - h)
+abbrev pub first_leaf_level : ℕ → Option ℕ
+first_leaf_level zero = None
+first_leaf_level (suc h) = Some (greatest_height - 1 - h)
 
 -- the height of the tree whose first leaf stands there
 abbrev pub height_of : Option ℕ → ℕ
@@ -109,7 +109,7 @@ height_of (Some level) = greatest_height - level
 
 -- what was seen of the whole tree of a root
 abbrev pub seen_of : ℕ → ℕ → List Element → List ℕ → SeenSoFar
-seen_of count height es us = record { reached = mark us (none_of count); leaf = leaf_of height; keys = length es }
+seen_of count height es us = record { reached = mark us (none_of count); leaf = first_leaf_level height; keys = length es }
 
 -- the tree of a root: in so many pages it has a height, elements and pages, none of them twice
 pub record IsRooted (layout : Layout) (k : ℕ) (pages : PageMap) (root height : ℕ) (es : List Element) (us : List ℕ) : Type 0 where

@@ -12,8 +12,8 @@ use Rattle.btree_delete.specs.Tidy.{DoneSoFar}
 abbrev pub element_at : Node → ℕ → Element
 element_at n i = slice_index_or n.elements.items i ([], [])
 
-abbrev pub son_at : Node → ℕ → ℕ
-son_at n i = slice_index_or n.sons.items i 0
+abbrev pub son_number : Node → ℕ → ℕ
+son_number n i = slice_index_or n.sons.items i 0
 
 -- sons i and i + 1 of a father and the element between them, as one node
 abbrev pub both : Node → ℕ → Node → Node → Node
@@ -34,8 +34,8 @@ pub record Catenates (k : ℕ) (father father' : Node) (pair : Brothers) (old ne
   pub kind : father'.kind ≡ father.kind
   pub elements : father'.elements.items ≡ remove father.elements.items pair.i
   pub sons : father'.sons.items ≡ remove father.sons.items (suc pair.i)
-  pub wrote : new.writes ≡ old.writes ++ (son_at father pair.i, spelling (both father pair.i pair.left pair.right) k) ∷ []
-  pub frees : new.freed ≡ old.freed ++ son_at father (suc pair.i) ∷ []
+  pub wrote : new.writes ≡ old.writes ++ (son_number father pair.i, spelling (both father pair.i pair.left pair.right) k) ∷ []
+  pub frees : new.freed ≡ old.freed ++ son_number father (suc pair.i) ∷ []
   pub stands : CanStand (both father pair.i pair.left pair.right) k
 
 -- many keys: they are distributed, and the key in the middle goes to the father
@@ -46,8 +46,8 @@ pub record Distributes (k : ℕ) (father father' : Node) (pair : Brothers) (old 
       ≡ slice_set father.elements.items pair.i (element_at (both father pair.i pair.left pair.right) (half_of_both pair.left pair.right))
   pub sons : father'.sons.items ≡ father.sons.items
   pub wrote : new.writes
-      ≡ (old.writes ++ (son_at father pair.i, spelling (left_of (half_of_both pair.left pair.right) (both father pair.i pair.left pair.right)) k) ∷ [])
-      ++ (son_at father (suc pair.i), spelling (right_of (half_of_both pair.left pair.right) (both father pair.i pair.left pair.right)) k) ∷ []
+      ≡ (old.writes ++ (son_number father pair.i, spelling (left_of (half_of_both pair.left pair.right) (both father pair.i pair.left pair.right)) k) ∷ [])
+      ++ (son_number father (suc pair.i), spelling (right_of (half_of_both pair.left pair.right) (both father pair.i pair.left pair.right)) k) ∷ []
   pub frees : new.freed ≡ old.freed
   pub left_stands : CanStand (left_of (half_of_both pair.left pair.right) (both father pair.i pair.left pair.right)) k
   pub right_stands : CanStand (right_of (half_of_both pair.left pair.right) (both father pair.i pair.left pair.right)) k

@@ -1,6 +1,6 @@
 -- A tree after an insertion at its root.
 use Rattle.std.proofs.Common.{◌≡◌, ℕ, zero, suc, ◌+◌, ◌^◌, ◌<◌, ◌≤◌, Option, None, IsSome, List, [], ◌∷◌, ◌++◌, length, refl, ap, sym, ◌∙◌, subst, arith, Some}
-use Rattle.page_store.specs.PageMap.{PageMap, write_page, overlay, after}
+use Rattle.page_store.specs.PageMap.{PageMap, write_page, pages_with, after}
 use Rattle.btree_node.specs.Layout.{second_layout}
 use Rattle.btree_node.specs.Lists.{Element}
 use Rattle.btree_node.specs.Spelling.{spelling, ElementFits, IsSon, CanStand}
@@ -44,11 +44,11 @@ tree_root k pages (suc h) root es us some tree = tree
 -- the first page of a tree
 pub plant : (k : ℕ) (old : PageMap) (ws ws2 : List (ℕ × List ℕ)) (fresh : ℕ → ℕ) (n height root : ℕ) (es : List Element) (us : List ℕ) (key value : List ℕ) → height ≡ 0 → RootAt k old height root es us → ws ≡ [] → n ≡ fresh 0 → IsFree old fresh
     → CanStand (leaf_of (key, value)) k → ws2 ≡ ws ++ (n, spelling (leaf_of (key, value)) k) ∷ []
-    → RootAt k (overlay old ws2) 1 n (set_in key (Some value) es) (n ∷ []) × PagesGrown old (overlay old ws2) fresh 0 1 us (n ∷ [])
+    → RootAt k (pages_with old ws2) 1 n (set_in key (Some value) es) (n ∷ []) × PagesGrown old (pages_with old ws2) fresh 0 1 us (n ∷ [])
 plant k old ws ws2 fresh n (suc height) root es us key value is tree none n_is free stands ws_is = absurd (omega arith)
 plant k old ws ws2 fresh n zero root es us key value is (root_is, es_is, us_is) none n_is free stands ws_is =
     let page = spelling (leaf_of (key, value)) k in
-    let new_is : overlay old ws2 ≡ write_page old n page = ap (overlay old) ws_is ∙ overlay_push old ws (n, page) ∙ ap (λ (vs : List (ℕ × List ℕ)). write_page (overlay old vs) n page) none in
+    let new_is : pages_with old ws2 ≡ write_page old n page = ap (pages_with old) ws_is ∙ overlay_push old ws (n, page) ∙ ap (λ (vs : List (ℕ × List ℕ)). write_page (pages_with old vs) n page) none in
     let kept : PagesGrown old (write_page old n page) fresh 0 1 [] (fresh 0 ∷ []) =
     kept_more old old (write_page old n page) fresh 0 0 [] [] [] free tt (omega arith) (λ q _ other. write_other old n page q (λ e. other (e ∙ n_is))) (kept_none old fresh 0 [] tt) in (
       subst (λ (new : PageMap). TreeAt k new 1 1 n (set_in key (Some value) es) (n ∷ [])) (sym new_is)
@@ -59,15 +59,15 @@ plant k old ws ws2 fresh n zero root es us key value is (root_is, es_is, us_is) 
     )
 
 -- a root above two pages
-pub root_up : (k : ℕ) (old : PageMap) (ws ws2 : List (ℕ × List ℕ)) (fresh : ℕ → ℕ) (hi h p n : ℕ) (us : List ℕ) (es : List Element) (middle : Element) (right : ℕ) → 0 < h → IsFree old fresh → InUse old us → Parts (tree_below k 1 h p) (pages_change old (overlay old ws) fresh 0 hi) us es middle right → n ≡ fresh hi
-    → CanStand (root_of p middle right) k → ws2 ≡ ws ++ (n, spelling (root_of p middle right) k) ∷ [] → Whole (tree_below k 1 (suc h) n) (pages_change old (overlay old ws2) fresh 0 (suc hi)) us es
+pub root_up : (k : ℕ) (old : PageMap) (ws ws2 : List (ℕ × List ℕ)) (fresh : ℕ → ℕ) (hi h p n : ℕ) (us : List ℕ) (es : List Element) (middle : Element) (right : ℕ) → 0 < h → IsFree old fresh → InUse old us → Parts (tree_below k 1 h p) (pages_change old (pages_with old ws) fresh 0 hi) us es middle right → n ≡ fresh hi
+    → CanStand (root_of p middle right) k → ws2 ≡ ws ++ (n, spelling (root_of p middle right) k) ∷ [] → Whole (tree_below k 1 (suc h) n) (pages_change old (pages_with old ws2) fresh 0 (suc hi)) us es
 root_up k old ws ws2 fresh hi zero p n us es middle right some free used parts n_is stands ws_is = absurd (omega arith)
 root_up k old ws ws2 fresh hi (suc h) p n us es middle right some free used parts n_is stands ws_is =
-    let mid : PageMap = overlay old ws in
+    let mid : PageMap = pages_with old ws in
     let page = spelling (root_of p middle right) k in
     let new : PageMap = write_page mid n page in
     let below = parts.before ++ parts.behind in
-    let new_is : overlay old ws2 ≡ new = ap (overlay old) ws_is ∙ overlay_push old ws (n, page) in
+    let new_is : pages_with old ws2 ≡ new = ap (pages_with old) ws_is ∙ overlay_push old ws (n, page) in
     let out : (q : ℕ) → IsIn q below → new q ≡ mid q = λ q is. write_other mid n page q (λ e. not_so_far old mid fresh 0 hi us below free used parts.kept (subst (λ (x : ℕ). IsIn x below) (e ∙ n_is) is)) in
     let left_tree = tree_move k mid new k (suc h) p parts.xs parts.before parts.left_tree (each_in (λ q. new q ≡ mid q) parts.before (λ q is. out q (in_left q parts.before parts.behind is))) in
     let right_tree = tree_move k mid new k (suc h) right parts.ys parts.behind parts.right_tree (each_in (λ q. new q ≡ mid q) parts.behind (λ q is. out q (in_right q parts.before parts.behind is))) in
@@ -123,9 +123,9 @@ next_inserted old new fresh lo hi h root tree next es us key value before lo_is 
 -- the first page
 pub plant_inserted : (old : PageMap) (ws ws2 : List (ℕ × List ℕ)) (fresh : ℕ → ℕ) (n taken : ℕ) (tree next : Tree) (es : List Element) (us : List ℕ) (key value : List ℕ) → tree.height ≡ 0 → taken ≡ 1 → Holds old tree es us → ws ≡ [] → n ≡ fresh 0 → IsFree old fresh
     → CanStand (leaf_of (key, value)) tree.order → ws2 ≡ ws ++ (n, spelling (leaf_of (key, value)) tree.order) ∷ [] → next.order ≡ tree.order → next.root ≡ n → next.height ≡ 1 → next.count ≡ tree.count + 1 → next.used ≡ tree.used + taken
-    → Inserted (pages_change old (overlay old ws2) fresh 0 taken) tree es us key value (next, None)
+    → Inserted (pages_change old (pages_with old ws2) fresh 0 taken) tree es us key value (next, None)
 plant_inserted old ws ws2 fresh n taken tree next es us key value empty one holds none n_is free stands ws_is order_is root_is height_is count_is used_is =
-    let new : PageMap = overlay old ws2 in
+    let new : PageMap = pages_with old ws2 in
     let es2 = set_in key (Some value) es in
     let planted = plant tree.order old ws ws2 fresh n tree.height tree.root es us key value empty holds.tree none n_is free stands ws_is in
     let at_next = subst (λ (o : ℕ). RootAt o new next.height next.root es2 (n ∷ [])) (sym order_is)
@@ -142,5 +142,5 @@ can_stage pages ws taken freed none fits room =
     subst (λ (xs : List ℕ). CanStage pages ws taken xs) (sym none) (record { written = fits.written; taken_written = fits.taken_written; freed_in_use = tt; freed_not_written = tt; room = λ _. room })
 
 -- and leaves what it wrote
-pub after_writes : (pages : PageMap) (ws : List (ℕ × List ℕ)) (freed : List ℕ) (q : ℕ) → freed ≡ [] → after pages ws freed q ≡ overlay pages ws q
+pub after_writes : (pages : PageMap) (ws : List (ℕ × List ℕ)) (freed : List ℕ) (q : ℕ) → freed ≡ [] → after pages ws freed q ≡ pages_with pages ws q
 after_writes pages ws freed q none = ap (λ (xs : List ℕ). after pages ws xs q) none

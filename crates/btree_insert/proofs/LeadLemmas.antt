@@ -10,7 +10,7 @@ use Rattle.btree_insert.specs.declared.step.Step.TheVariants.{Found, Ends, Goes}
 use Rattle.btree_insert.specs.Bounds.{son_bounds}
 use Rattle.btree_insert.specs.PageTrees.{Spells, kind_of_level}
 use Rattle.btree_insert.specs.Reached.{Leads, GoesOn}
-use Rattle.btree_insert.specs.Steps.{Steps, Belongs}
+use Rattle.btree_insert.specs.Steps.{Steps, BelongsAt}
 use Rattle.btree_insert.proofs.DistinctPageLemmas.{irreflexive}
 
 -- a key is not on two sides of another
@@ -78,7 +78,7 @@ levels_of k pages spot key led some leads =
 pub record Led (k : ℕ) (pages : PageMap) (spot : Spot) (key : List ℕ) (led : Option (List ℕ)) : Type 0 where
   pub node : Node
   pub spells : Spells k pages spot.page node
-  pub belongs : Belongs spot node
+  pub belongs : BelongsAt spot node
   pub place : ℕ
   pub meets : Meets node.elements.items key place led (GoesOn (Leads (Spells k pages) key (spot.level - 1)) (spot.level - 1) node place spot.bounds led)
 
@@ -96,7 +96,7 @@ led_node k pages spot key led some leads =
 
 -- the record that was found is the one led to
 pub found_is_led : (k : ℕ) (pages : PageMap) (spot : Spot) (key value : List ℕ) (i : ℕ) (led : Option (List ℕ)) → 0 < spot.level → Leads (Spells k pages) key spot.level spot.page spot.bounds led
-    → ((m : Node) → Spells k pages spot.page m → Belongs spot m → Steps spot.level m spot.bounds key (Found i value)) → Some value ≡ led
+    → ((m : Node) → Spells k pages spot.page m → BelongsAt spot m → Steps spot.level m spot.bounds key (Found i value)) → Some value ≡ led
 found_is_led k pages spot key value i led some leads tells =
     let l = led_node k pages spot key led some leads in
     let step = tells l.node l.spells l.belongs in
@@ -104,7 +104,7 @@ found_is_led k pages spot key value i led some leads tells =
 
 -- where the search ends, the pages lead to nothing
 pub end_is_led : (k : ℕ) (pages : PageMap) (spot : Spot) (key : List ℕ) (i : ℕ) (led : Option (List ℕ)) → 0 < spot.level → Leads (Spells k pages) key spot.level spot.page spot.bounds led
-    → ((m : Node) → Spells k pages spot.page m → Belongs spot m → Steps spot.level m spot.bounds key (Ends i)) → None ≡ led
+    → ((m : Node) → Spells k pages spot.page m → BelongsAt spot m → Steps spot.level m spot.bounds key (Ends i)) → None ≡ led
 end_is_led k pages spot key i led some leads tells =
     let l = led_node k pages spot key led some leads in
     let step = tells l.node l.spells l.belongs in
@@ -114,7 +114,7 @@ end_is_led k pages spot key i led some leads tells =
 
 -- the pages lead on from the son
 pub son_is_led : (k : ℕ) (pages pages2 : PageMap) (spot : Spot) (key : List ℕ) (i son : ℕ) (b : Bounds) (led : Option (List ℕ)) → pages2 ≡ pages → 0 < spot.level → Leads (Spells k pages) key spot.level spot.page spot.bounds led
-    → ((m : Node) → Spells k pages spot.page m → Belongs spot m → Steps spot.level m spot.bounds key (Goes i son b)) → Leads (Spells k pages2) key (spot.level - 1) son b led
+    → ((m : Node) → Spells k pages spot.page m → BelongsAt spot m → Steps spot.level m spot.bounds key (Goes i son b)) → Leads (Spells k pages2) key (spot.level - 1) son b led
 son_is_led k pages pages2 spot key i son b led pages_is some leads tells =
     let l = led_node k pages spot key led some leads in
     let step = tells l.node l.spells l.belongs in

@@ -26,3 +26,4 @@ pub mod ContentsLemmas
 pub mod TreeElementLemmas
 pub mod TreeExampleLemmas
 pub mod SpeltLemmas
+pub mod RootSpotLemmas

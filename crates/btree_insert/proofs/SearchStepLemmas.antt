@@ -14,7 +14,7 @@ use Rattle.btree_insert.specs.Bounds.{Over, Under, AreWithin, Between, son_bound
 use Rattle.btree_insert.specs.Contents.{lookup_in}
 use Rattle.btree_insert.specs.PageTrees.{Spells, TreeAt}
 use Rattle.btree_insert.specs.Reached.{Leads}
-use Rattle.btree_insert.specs.Steps.{Steps, Belongs}
+use Rattle.btree_insert.specs.Steps.{Steps, BelongsAt}
 use Rattle.btree_insert.proofs.BoundLemmas.{both_within}
 use Rattle.btree_insert.proofs.ReachLemmas.{leads_on, leads_below}
 use Rattle.btree_insert.proofs.HeadNodeLemmas.{Top, top, find_here, find_no_more, find_son}
@@ -37,7 +37,7 @@ first_tells bounds es d first r some first_is over no_over =
     (λ yes. absurd (false≢true (sym no_over ∙ yes)), λ within. over.1 (subst (Over bounds.low) (sym first_is) (Each_at (λ (z : Element). Over bounds.low z.0) es 0 x within.over some (get_or_default es 0 d x some))))
 
 -- what a step says of the node at the head of a tree
-head_of : (k : ℕ) (pages : PageMap) (least : ℕ) (spot : Spot) (es : List Element) (us : List ℕ) (key : List ℕ) (step : Step) → 0 < spot.level → TreeAt k pages least spot.level spot.page es us → Between spot.bounds es → ((m : Node) → Spells k pages spot.page m → Belongs spot m → Steps spot.level m spot.bounds key step)
+head_of : (k : ℕ) (pages : PageMap) (least : ℕ) (spot : Spot) (es : List Element) (us : List ℕ) (key : List ℕ) (step : Step) → 0 < spot.level → TreeAt k pages least spot.level spot.page es us → Between spot.bounds es → ((m : Node) → Spells k pages spot.page m → BelongsAt spot m → Steps spot.level m spot.bounds key step)
     → (n : Node) × Top k pages least spot.level (spot.level - 1) spot.page es us spot.bounds n × Steps spot.level n spot.bounds key step
 head_of k pages least spot es us key step some tree between tells =
     let head = top k pages least spot.level (spot.level - 1) spot.page es us spot.bounds (omega (arith, some)) tree between in
@@ -45,7 +45,7 @@ head_of k pages least spot es us key step some tree between tells =
 
 -- the record that was found is that of the tree
 pub found_tells : (k : ℕ) (pages : PageMap) (least : ℕ) (spot : Spot) (es : List Element) (us : List ℕ) (key value : List ℕ) (i : ℕ) → 0 < spot.level → TreeAt k pages least spot.level spot.page es us → Between spot.bounds es
-    → ((m : Node) → Spells k pages spot.page m → Belongs spot m → Steps spot.level m spot.bounds key (Found i value)) → Some value ≡ lookup_in key es
+    → ((m : Node) → Spells k pages spot.page m → BelongsAt spot m → Steps spot.level m spot.bounds key (Found i value)) → Some value ≡ lookup_in key es
 found_tells k pages least spot es us key value i some tree between tells =
     let h = head_of k pages least spot es us key (Found i value) some tree between tells in
     let els = h.0.elements.items in
@@ -55,7 +55,7 @@ found_tells k pages least spot es us key value i some tree between tells =
 
 -- where the search ends, the tree has no record
 pub ends_tells : (k : ℕ) (pages : PageMap) (least : ℕ) (spot : Spot) (es : List Element) (us : List ℕ) (key : List ℕ) (i : ℕ) → 0 < spot.level → TreeAt k pages least spot.level spot.page es us → Between spot.bounds es
-    → ((m : Node) → Spells k pages spot.page m → Belongs spot m → Steps spot.level m spot.bounds key (Ends i)) → None ≡ lookup_in key es
+    → ((m : Node) → Spells k pages spot.page m → BelongsAt spot m → Steps spot.level m spot.bounds key (Ends i)) → None ≡ lookup_in key es
 ends_tells k pages least spot es us key i some tree between tells =
     let h = head_of k pages least spot es us key (Ends i) some tree between tells in
     find_no_more (TreeAt k pages k (spot.level - 1)) (spot.level - 1) h.0 es h.1.below key i (omega (arith, h.2.0)) h.1.body h.2.1
@@ -70,7 +70,7 @@ pub record Under_son (k : ℕ) (pages : PageMap) (level son : ℕ) (b : Bounds) 
 
 -- the step to a son tells of the tree below it
 pub goes_tells : (k : ℕ) (pages : PageMap) (least : ℕ) (spot : Spot) (es : List Element) (us : List ℕ) (key : List ℕ) (i son : ℕ) (b : Bounds) → 0 < spot.level → TreeAt k pages least spot.level spot.page es us → Between spot.bounds es
-    → ((m : Node) → Spells k pages spot.page m → Belongs spot m → Steps spot.level m spot.bounds key (Goes i son b)) → Under_son k pages (spot.level - 1) son b es key
+    → ((m : Node) → Spells k pages spot.page m → BelongsAt spot m → Steps spot.level m spot.bounds key (Goes i son b)) → Under_son k pages (spot.level - 1) son b es key
 goes_tells k pages least spot es us key i son b some tree between tells =
     let h = head_of k pages least spot es us key (Goes i son b) some tree between tells in
     let s = find_son (TreeAt k pages k (spot.level - 1)) (spot.level - 1) h.0 es h.1.below key i spot.bounds (omega (arith, h.2.0)) h.1.body between h.2.1 in
@@ -83,7 +83,7 @@ goes_tells k pages least spot es us key i son b some tree between tells =
     }
 
 -- the search leads on from the son
-pub goes_leads : (k : ℕ) (pages pages2 : PageMap) (spot : Spot) (n : Node) (key : List ℕ) (i son : ℕ) (b : Bounds) (found : Option (List ℕ)) → pages2 ≡ pages → Spells k pages spot.page n → Belongs spot n
+pub goes_leads : (k : ℕ) (pages pages2 : PageMap) (spot : Spot) (n : Node) (key : List ℕ) (i son : ℕ) (b : Bounds) (found : Option (List ℕ)) → pages2 ≡ pages → Spells k pages spot.page n → BelongsAt spot n
     → Steps spot.level n spot.bounds key (Goes i son b) → Leads (Spells k pages2) key (spot.level - 1) son b found → Leads (Spells k pages) key spot.level spot.page spot.bounds found
 goes_leads k pages pages2 spot n key i son b found pages_is spells belongs (high, place, son_is, b_is) leads =
     let low_is : spot.level - 1 ≡ suc (spot.level - 2) = omega (arith, high) in

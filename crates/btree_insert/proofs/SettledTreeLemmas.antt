@@ -3,7 +3,7 @@ use Rattle.std.proofs.Common.{◌≡◌, ℕ, zero, suc, ◌+◌, ◌*◌, ◌<�
 use Rattle.std.proofs.lemmas.List.{length-take, length-drop}
 use Rattle.std.proofs.lemmas.Bool.Decides.{nat_tests}
 use Rattle.std.specs.List.{insert}
-use Rattle.page_store.specs.PageMap.{PageMap, write_page, overlay}
+use Rattle.page_store.specs.PageMap.{PageMap, write_page, pages_with}
 use Rattle.btree_node.specs.declared.node.Node.{Node}
 use Rattle.btree_node.specs.declared.node.NodeKind.TheVariants.{Inner}
 use Rattle.btree_node.specs.Cut.{left_of, right_of}
@@ -28,7 +28,7 @@ use Rattle.btree_insert.proofs.Membership.{Apart-right, Apart-across, each_in, i
 use Rattle.btree_insert.proofs.HeadNodeLemmas.{Top, find_here, find_no_more}
 
 -- one more page written over the others
-pub overlay_push : (pages : PageMap) (ws : List (ℕ × List ℕ)) (w : ℕ × List ℕ) → overlay pages (ws ++ w ∷ []) ≡ write_page (overlay pages ws) w.0 w.1
+pub overlay_push : (pages : PageMap) (ws : List (ℕ × List ℕ)) (w : ℕ × List ℕ) → pages_with pages (ws ++ w ∷ []) ≡ write_page (pages_with pages ws) w.0 w.1
 overlay_push pages [] w = refl
 overlay_push pages (v ∷ ws) w = overlay_push (write_page pages v.0 v.1) ws w
 
@@ -91,23 +91,23 @@ settle_parts k old mid fresh lo hi least h p us below es n middle some full may_
 
 -- what a node that was settled stands for
 pub settle_grows : (k : ℕ) (old : PageMap) (e e2 : PageEdit) (fresh : ℕ → ℕ) (lo least h p : ℕ) (us below : List ℕ) (es : List Element) (n : Node) (g : Grown) → 1 ≤ k → MayBeOverfull k n → least ≤ length n.elements.items → lo ≤ e.taken → IsIn p us → IsFree old fresh → InUse old us
-    → WritesOrSplits k (fresh e.taken) e e2 p n g → PagesGrown old (overlay old e.writes.items) fresh lo e.taken us (p ∷ below) → Body (TreeAt k (overlay old e.writes.items) k h) h n es below
-    → Grows (tree_below k least (suc h) p) (pages_change old (overlay old e2.writes.items) fresh lo e2.taken) us es g
+    → WritesOrSplits k (fresh e.taken) e e2 p n g → PagesGrown old (pages_with old e.writes.items) fresh lo e.taken us (p ∷ below) → Body (TreeAt k (pages_with old e.writes.items) k h) h n es below
+    → Grows (tree_below k least (suc h) p) (pages_change old (pages_with old e2.writes.items) fresh lo e2.taken) us es g
 settle_grows k old e e2 fresh lo least h p us below es n (Replaced value) some may_be_overfull least_is le here free used settled kept body = absurd settled
 settle_grows k old e e2 fresh lo least h p us below es n Fits some may_be_overfull least_is le here free used (few, ws_is, hi_is) kept body =
-    let new_is = ap (overlay old) ws_is ∙ overlay_push old e.writes.items (p, spelling n k) in
+    let new_is = ap (pages_with old) ws_is ∙ overlay_push old e.writes.items (p, spelling n k) in
     subst (λ (new : PageMap). Whole (tree_below k least (suc h) p) (pages_change old new fresh lo e2.taken) us es) (sym new_is)
-    (subst (λ (x : ℕ). Whole (tree_below k least (suc h) p) (pages_change old (write_page (overlay old e.writes.items) p (spelling n k)) fresh lo x) us es) (sym hi_is)
-    (settle_whole k old (overlay old e.writes.items) fresh lo e.taken least h p us below es n (may_be_overfull_stands k n may_be_overfull few) here free used kept body least_is))
+    (subst (λ (x : ℕ). Whole (tree_below k least (suc h) p) (pages_change old (write_page (pages_with old e.writes.items) p (spelling n k)) fresh lo x) us es) (sym hi_is)
+    (settle_whole k old (pages_with old e.writes.items) fresh lo e.taken least h p us below es n (may_be_overfull_stands k n may_be_overfull few) here free used kept body least_is))
 settle_grows k old e e2 fresh lo least h p us below es n (Split middle right) some may_be_overfull least_is le here free used (full, middle_is, right_is, ws_is, hi_is) kept body =
     let left_page = spelling (left_of k n) k in
     let right_page = spelling (right_of k n) k in
-    let new_is = ap (overlay old) ws_is ∙ overlay_push old (e.writes.items ++ (p, left_page) ∷ []) (fresh e.taken, right_page) ∙ ap (λ (m : PageMap). write_page m (fresh e.taken) right_page) (overlay_push old e.writes.items (p, left_page)) in
+    let new_is = ap (pages_with old) ws_is ∙ overlay_push old (e.writes.items ++ (p, left_page) ∷ []) (fresh e.taken, right_page) ∙ ap (λ (m : PageMap). write_page m (fresh e.taken) right_page) (overlay_push old e.writes.items (p, left_page)) in
     let up_is : suc e.taken ≡ e2.taken = omega arith in
     subst (λ (new : PageMap). Parts (tree_below k least (suc h) p) (pages_change old new fresh lo e2.taken) us es middle right) (sym new_is)
-    (subst (λ (r : ℕ). Parts (tree_below k least (suc h) p) (pages_change old (write_page (write_page (overlay old e.writes.items) p left_page) (fresh e.taken) right_page) fresh lo e2.taken) us es middle r) (sym right_is)
-    (subst (λ (x : ℕ). Parts (tree_below k least (suc h) p) (pages_change old (write_page (write_page (overlay old e.writes.items) p left_page) (fresh e.taken) right_page) fresh lo x) us es middle (fresh e.taken)) up_is
-    (settle_parts k old (overlay old e.writes.items) fresh lo e.taken least h p us below es n middle some full may_be_overfull le here free used (middle_is middle) kept body)))
+    (subst (λ (r : ℕ). Parts (tree_below k least (suc h) p) (pages_change old (write_page (write_page (pages_with old e.writes.items) p left_page) (fresh e.taken) right_page) fresh lo e2.taken) us es middle r) (sym right_is)
+    (subst (λ (x : ℕ). Parts (tree_below k least (suc h) p) (pages_change old (write_page (write_page (pages_with old e.writes.items) p left_page) (fresh e.taken) right_page) fresh lo x) us es middle (fresh e.taken)) up_is
+    (settle_parts k old (pages_with old e.writes.items) fresh lo e.taken least h p us below es n middle some full may_be_overfull le here free used (middle_is middle) kept body)))
 
 -- a settled node had no record at the key
 pub told_new : (k fresh p : ℕ) (e e2 : PageEdit) (n : Node) (g : Grown) (key : List ℕ) (es : List Element) → WritesOrSplits k fresh e e2 p n g → lookup_in key es ≡ None → TellsOld key es g
@@ -209,12 +209,12 @@ grow_stays k old new fresh lo hi least height h p es us b n key value i (Split m
 -- what an insertion that split a son comes to at the page
 pub grow_split : (k : ℕ) (old : PageMap) (e e2 : PageEdit) (fresh : ℕ → ℕ) (lo least height h p : ℕ) (es : List Element) (us : List ℕ) (b : Bounds) (n m : Node) (key value : List ℕ) (i : ℕ) (middle : Element) (right : ℕ) (g : Grown)
     → suc h ≡ height → 0 < h → 1 ≤ k → lo ≤ e.taken → IsFree old fresh → InUse old us → Apart us → (head : Top k old least height h p es us b n)
-    → (at : Focus (TreeAt k old k h) (TreeAt k (overlay old e.writes.items) k h) (λ q. overlay old e.writes.items q ≡ old q) n.sons.items n.elements.items es head.below key i b)
-    → Grew (tree_below k k h (get_or n.sons.items i 0)) (pages_change old (overlay old e.writes.items) fresh lo e.taken) at.xs at.mine key value (Split middle right)
+    → (at : Focus (TreeAt k old k h) (TreeAt k (pages_with old e.writes.items) k h) (λ q. pages_with old e.writes.items q ≡ old q) n.sons.items n.elements.items es head.below key i b)
+    → Grew (tree_below k k h (get_or n.sons.items i 0)) (pages_change old (pages_with old e.writes.items) fresh lo e.taken) at.xs at.mine key value (Split middle right)
     → MayBeOverfull k m → least ≤ length m.elements.items → m.kind ≡ n.kind → m.elements.items ≡ insert n.elements.items i middle → m.sons.items ≡ insert n.sons.items (suc i) right → WritesOrSplits k (fresh e.taken) e e2 p m g
-    → Grew (tree_below k least height p) (pages_change old (overlay old e2.writes.items) fresh lo e2.taken) es us key value g
+    → Grew (tree_below k least height p) (pages_change old (pages_with old e2.writes.items) fresh lo e2.taken) es us key value g
 grow_split k old e e2 fresh lo least height h p es us b n m key value i middle right g is some order le free used apart head at grew may_be_overfull least_is kind_is els_is sons_is settled =
-    let mid : PageMap = overlay old e.writes.items in
+    let mid : PageMap = pages_with old e.writes.items in
     let parts = grew.grows in
     let us_is = head.us_is ∙ ap (λ vs. p ∷ vs) at.us_is in
     let sides = around_son old mid fresh lo e.taken p at.upre at.mine at.upost (parts.before ++ parts.behind) free (subst (InUse old) us_is used) (subst Apart us_is apart) parts.kept in
@@ -222,7 +222,7 @@ grow_split k old e e2 fresh lo least height h p es us b n m key value i middle r
     let fan = at.split sides.before sides.behind parts.xs parts.before middle right parts.ys parts.behind parts.left_tree parts.right_tree in
     let es_is = ap (set_in key (Some value)) at.es_is ∙ put-between key value at.pre at.xs at.post at.below at.above ∙ ap (λ (zs : List Element). at.pre ++ (zs ++ at.post)) parts.es_is in
     let body = inner_body k mid h n m (insert n.sons.items (suc i) right) (insert n.elements.items i middle) (at.pre ++ ((parts.xs ++ middle ∷ parts.ys) ++ at.post)) below some (inner_kind k old h n es head.below some head.body) kind_is els_is sons_is fan in
-    subst (λ (x : ℕ). Grew (tree_below k least x p) (pages_change old (overlay old e2.writes.items) fresh lo e2.taken) es us key value g) is (record {
+    subst (λ (x : ℕ). Grew (tree_below k least x p) (pages_change old (pages_with old e2.writes.items) fresh lo e2.taken) es us key value g) is (record {
       told = told_new k (fresh e.taken) p e e2 m g key es settled (sym (found_same k old mid h n es head.below key i b at) ∙ grew.told);
       grows = settle_grows k old e e2 fresh lo least h p us below (set_in key (Some value) es) m g order may_be_overfull least_is le (subst (IsIn p) (sym head.us_is) (inl refl)) free used settled
           (subst (λ (xs : List ℕ). PagesGrown old mid fresh lo e.taken xs (p ∷ below)) (sym us_is) sides.kept)
@@ -233,15 +233,15 @@ grow_split k old e e2 fresh lo least height h p es us b n m key value i middle r
 pub grow_leaf : (k : ℕ) (old : PageMap) (e e2 : PageEdit) (fresh : ℕ → ℕ) (least height h p : ℕ) (es : List Element) (us : List ℕ) (b : Bounds) (n m : Node) (key value : List ℕ) (i : ℕ) (g : Grown)
     → suc h ≡ height → h ≡ 0 → 1 ≤ k → e.writes.items ≡ [] → IsFree old fresh → InUse old us → Apart us → (head : Top k old least height h p es us b n) → IsPlace n.elements.items key i
     → MayBeOverfull k m → least ≤ length m.elements.items → m.kind ≡ n.kind → m.elements.items ≡ insert n.elements.items i (key, value) → WritesOrSplits k (fresh e.taken) e e2 p m g
-    → Grew (tree_below k least height p) (pages_change old (overlay old e2.writes.items) fresh e.taken e2.taken) es us key value g
+    → Grew (tree_below k least height p) (pages_change old (pages_with old e2.writes.items) fresh e.taken e2.taken) es us key value g
 grow_leaf k old e e2 fresh least height (suc h) p es us b n m key value i g is zero_is order none free used apart head place may_be_overfull least_is kind_is els_is settled = absurd (omega arith)
 grow_leaf k old e e2 fresh least height zero p es us b n m key value i g is zero_is order none free used apart head place may_be_overfull least_is kind_is els_is settled =
     let es_is = ap (set_in key (Some value)) head.body.1 ∙ put_is_insert key value n.elements.items i place ∙ sym els_is in
     let here : PagesGrown old old fresh e.taken e.taken us (p ∷ head.below) = subst (λ (vs : List ℕ). PagesGrown old old fresh e.taken e.taken us vs) head.us_is (kept_none old fresh e.taken us apart) in
-    subst (λ (x : ℕ). Grew (tree_below k least x p) (pages_change old (overlay old e2.writes.items) fresh e.taken e2.taken) es us key value g) is (record {
+    subst (λ (x : ℕ). Grew (tree_below k least x p) (pages_change old (pages_with old e2.writes.items) fresh e.taken e2.taken) es us key value g) is (record {
       told = told_new k (fresh e.taken) p e e2 m g key es settled (sym (find_no_more (TreeAt k old k 0) 0 n es head.below key i refl head.body place));
       grows = settle_grows k old e e2 fresh e.taken least 0 p us head.below (set_in key (Some value) es) m g order may_be_overfull least_is (omega arith) (subst (IsIn p) (sym head.us_is) (inl refl)) free used settled
-          (subst (λ (vs : List (ℕ × List ℕ)). PagesGrown old (overlay old vs) fresh e.taken e.taken us (p ∷ head.below)) (sym none) here)
+          (subst (λ (vs : List (ℕ × List ℕ)). PagesGrown old (pages_with old vs) fresh e.taken e.taken us (p ∷ head.below)) (sym none) here)
           (kind_is ∙ head.body.0, es_is, head.body.2);
     })
 
@@ -271,13 +271,13 @@ replaced_body k old (suc h) n m es below key value i x body up place is kind_is 
 pub grow_replaced : (k : ℕ) (old : PageMap) (ws ws2 : List (ℕ × List ℕ)) (fresh : ℕ → ℕ) (lo hi2 least height h p : ℕ) (es : List Element) (us : List ℕ) (b : Bounds) (n m : Node) (key value : List ℕ) (i : ℕ) (x : Element)
     → suc h ≡ height → ws ≡ [] → hi2 ≡ lo → IsFree old fresh → InUse old us → Apart us → (head : Top k old least height h p es us b n) → Ascends es → IsAt n.elements.items key i → x ≡ get_or n.elements.items i x
     → CanStand m k → least ≤ length m.elements.items → m.kind ≡ n.kind → m.elements.items ≡ set n.elements.items i (key, value) → m.sons.items ≡ n.sons.items → ws2 ≡ ws ++ (p, spelling m k) ∷ []
-    → Grew (tree_below k least height p) (pages_change old (overlay old ws2) fresh lo hi2) es us key value (Replaced x.1)
+    → Grew (tree_below k least height p) (pages_change old (pages_with old ws2) fresh lo hi2) es us key value (Replaced x.1)
 grow_replaced k old ws ws2 fresh lo hi2 least height h p es us b n m key value i x is none hi_is free used apart head up place x_is stands least_is kind_is els_is sons_is ws_is =
     let here : PagesGrown old old fresh lo lo us (p ∷ head.below) = subst (λ (vs : List ℕ). PagesGrown old old fresh lo lo us vs) head.us_is (kept_none old fresh lo us apart) in
     let body = replaced_body k old h n m es head.below key value i x head.body up place x_is kind_is els_is sons_is in
     let whole = settle_whole k old old fresh lo lo least h p us head.below (set_in key (Some value) es) m stands (subst (IsIn p) (sym head.us_is) (inl refl)) free used here body least_is in
-    let new_is = ap (overlay old) ws_is ∙ overlay_push old ws (p, spelling m k) ∙ ap (λ (vs : List (ℕ × List ℕ)). write_page (overlay old vs) p (spelling m k)) none in
-    subst (λ (y : ℕ). Grew (tree_below k least y p) (pages_change old (overlay old ws2) fresh lo hi2) es us key value (Replaced x.1)) is (record {
+    let new_is = ap (pages_with old) ws_is ∙ overlay_push old ws (p, spelling m k) ∙ ap (λ (vs : List (ℕ × List ℕ)). write_page (pages_with old vs) p (spelling m k)) none in
+    subst (λ (y : ℕ). Grew (tree_below k least y p) (pages_change old (pages_with old ws2) fresh lo hi2) es us key value (Replaced x.1)) is (record {
       told = sym (find_here (TreeAt k old k h) h n es head.below key i x head.body up place x_is);
       grows = subst (λ (new : PageMap). Whole (tree_below k least (suc h) p) (pages_change old new fresh lo hi2) us (set_in key (Some value) es)) (sym new_is)
           (subst (λ (y : ℕ). Whole (tree_below k least (suc h) p) (pages_change old (write_page old p (spelling m k)) fresh lo y) us (set_in key (Some value) es)) (sym hi_is) whole);

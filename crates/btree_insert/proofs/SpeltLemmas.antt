@@ -1,6 +1,6 @@
 -- What pages spell after an edit.
 use Rattle.std.proofs.Common.{◌≡◌, ℕ, Bool, true, false, not, ◌||◌, ◌&&◌, cond, eqb, Option, Some, None, is_some, is_none, IsSome, IfSome, List, [], ◌∷◌, ◌++◌, refl, ap, sym, ◌∙◌, subst}
-use Rattle.page_store.specs.PageMap.{PageMap, at, write_page, overlay, free_all, after, is_written, is_freed}
+use Rattle.page_store.specs.PageMap.{PageMap, at, write_page, pages_with, free_all, after, is_written, is_freed}
 use Rattle.page_store.specs.PagesView.{PagesView, is_in_memory, OnlyReads}
 use Rattle.btree_node.specs.declared.node.Node.{Node}
 use Rattle.btree_node.specs.Spelling.{spelling, CanStand, IsSpelt, AreSpelt}
@@ -33,7 +33,7 @@ unfreed pages (f ∷ fs) q page is =
     by_case false is = is
 
 -- a page that spelt a node before
-spelt_over : (k : ℕ) (pages : PageMap) (ws : List (ℕ × List ℕ)) (q : ℕ) (page : List ℕ) → ((p : List ℕ) → pages q ≡ Some p → IsSpelt k p) → AreSpelt k ws → overlay pages ws q ≡ Some page → IsSpelt k page
+spelt_over : (k : ℕ) (pages : PageMap) (ws : List (ℕ × List ℕ)) (q : ℕ) (page : List ℕ) → ((p : List ℕ) → pages q ≡ Some p → IsSpelt k p) → AreSpelt k ws → pages_with pages ws q ≡ Some page → IsSpelt k page
 spelt_over k pages [] q page old spelt is = old page is
 spelt_over k pages (w ∷ ws) q page old spelt is =
     spelt_over k (write_page pages w.0 w.1) ws q page (λ p there. by_case (eqb q w.0) p there) spelt.1 is
@@ -43,7 +43,7 @@ spelt_over k pages (w ∷ ws) q page old spelt is =
     by_case false p there = old p there
 
 -- a page that is written
-spelt_written : (k : ℕ) (pages : PageMap) (ws : List (ℕ × List ℕ)) (q : ℕ) (page : List ℕ) → is_written ws q ≡ true → AreSpelt k ws → overlay pages ws q ≡ Some page → IsSpelt k page
+spelt_written : (k : ℕ) (pages : PageMap) (ws : List (ℕ × List ℕ)) (q : ℕ) (page : List ℕ) → is_written ws q ≡ true → AreSpelt k ws → pages_with pages ws q ≡ Some page → IsSpelt k page
 spelt_written k pages [] q page written spelt is = absurd (cc)
 spelt_written k pages (w ∷ ws) q page written spelt is =
     by_case (eqb q w.0) refl written (λ rest. spelt_written k (write_page pages w.0 w.1) ws q page rest spelt.1 is)
@@ -59,9 +59,9 @@ spelt_written k pages (w ∷ ws) q page written spelt is =
 pub spelt_staged : (k : ℕ) (old new : PagesView) (ws : List (ℕ × List ℕ)) (fs : List ℕ) → ((n : ℕ) → at new.pages n ≡ after (at old.pages) ws fs n)
     → ((n : ℕ) → is_in_memory new n ≡ ((is_written ws n || is_in_memory old n) && not (is_freed fs n))) → AreSpelt k ws → AreSpeltIn k old → AreSpeltIn k new
 spelt_staged k old new ws fs pages in_memory writes spelt n page here there =
-    by_case (is_written ws n) (is_in_memory old n) (is_freed fs n) refl refl (sym (in_memory n) ∙ here) (unfreed (overlay (at old.pages) ws) fs n page (sym (pages n) ∙ there))
+    by_case (is_written ws n) (is_in_memory old n) (is_freed fs n) refl refl (sym (in_memory n) ∙ here) (unfreed (pages_with (at old.pages) ws) fs n page (sym (pages n) ∙ there))
   where
-    by_case : (b c d : Bool) → is_written ws n ≡ b → is_in_memory old n ≡ c → ((b || c) && not d) ≡ true → overlay (at old.pages) ws n ≡ Some page → IsSpelt k page
+    by_case : (b c d : Bool) → is_written ws n ≡ b → is_in_memory old n ≡ c → ((b || c) && not d) ≡ true → pages_with (at old.pages) ws n ≡ Some page → IsSpelt k page
     by_case true c d written kept here is = spelt_written k (at old.pages) ws n page written writes is
     by_case false true d written kept here is = spelt_over k (at old.pages) ws n page (λ p there. spelt n p kept there) writes is
     by_case false false d written kept here is = absurd (cc)

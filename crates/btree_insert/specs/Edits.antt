@@ -9,7 +9,7 @@ use Rattle.btree_node.specs.Spelling.{AreSpelt, IsElement}
 use Rattle.btree_insert.specs.Spelt.{IsTreeIn}
 use Rattle.btree_insert.specs.declared.tree.Tree.{Tree}
 use Rattle.btree_insert.specs.declared.tree.TreeFault.{TreeFault}
-use Rattle.btree_insert.specs.Faults.{is_device, AsksNoMemory}
+use Rattle.btree_insert.specs.Faults.{is_tree_device, TreeAsksNoMemory}
 use Rattle.btree_insert.specs.Growth.{WritesFit}
 use Rattle.btree_insert.specs.Sizes.{greatest_height}
 
@@ -21,22 +21,22 @@ pub record IsInUse (pages : List (Option (List ℕ))) (n : ℕ) : Type 0 where
 -- pages were at most read, at most so often, and the answer tells whether a read failed
 pub record Reads {A : Type 0} (most : ℕ) (old : PagesView) (answer : Result A TreeFault) (new : PagesView) : Type 0 where
   pub unchanged : OnlyReads old new
-  pub device : new.failures ≡ counted old.failures (is_device answer)
+  pub device : new.failures ≡ counted old.failures (is_tree_device answer)
   pub reads : new.reads ≤ old.reads + most
 
 -- the same of a call that asks for no memory
 abbrev pub Looks : {A : Type 0} → ℕ → PagesView → Result A TreeFault → PagesView → Type 0
-Looks most old answer new = Reads most old answer new × AsksNoMemory answer
+Looks most old answer new = Reads most old answer new × TreeAsksNoMemory answer
 
 -- one page is read, and no memory asked for
 abbrev pub ReadsOnce : {A : Type 0} → PagesView → Result A TreeFault → PagesView → Type 0
-ReadsOnce old answer new = Reads 1 old answer new × AsksNoMemory answer × OnOk answer (new.reads ≡ counted old.reads true)
+ReadsOnce old answer new = Reads 1 old answer new × TreeAsksNoMemory answer × OnOk answer (new.reads ≡ counted old.reads true)
 
 -- pages were read, at most so often, and an edit was staged unless there is a fault
 pub record Stages {A : Type 0} (most : ℕ) (old : PagesView) (answer : Result A TreeFault) (new : PagesView) : Type 0 where
   pub store : OnlyStages old new
   pub err : OnErr answer (OnlyReads old new)
-  pub device : new.failures ≡ counted old.failures (is_device answer)
+  pub device : new.failures ≡ counted old.failures (is_tree_device answer)
   pub reads : new.reads ≤ old.reads + most
 
 -- an edit that writes no page and takes no number
@@ -69,7 +69,7 @@ pub record CanSettle (pages : List (Option (List ℕ))) (edit : PageEdit) (n : �
   pub fits : WritesFit pages edit.writes.items edit.taken
 
 -- a way down has room for so many levels, and an edit for what is written on it
-pub record HasRoom (pages : List (Option (List ℕ))) (edit : PageEdit) (visited : List ℕ) (level : ℕ) : Type 0 where
+pub record HasEditRoom (pages : List (Option (List ℕ))) (edit : PageEdit) (visited : List ℕ) (level : ℕ) : Type 0 where
   pub levels : length visited + level ≤ greatest_height
   pub taken : edit.taken ≤ greatest_height
   pub fits : WritesFit pages edit.writes.items edit.taken

@@ -27,10 +27,10 @@ use Rattle.btree_insert.specs.PageTrees.{TreeAt, TreeBelow}
 use Rattle.btree_insert.specs.Steps.{CanSearch}
 
 -- the fault is not of the pages
-abbrev pub IsOutside : TreeFault → Type 0
-IsOutside Device = Unit {0}
-IsOutside (Damaged page) = ⊥
-IsOutside Memory = Unit {0}
+abbrev pub IsNotOfPages : TreeFault → Type 0
+IsNotOfPages Device = Unit {0}
+IsNotOfPages (Damaged page) = ⊥
+IsNotOfPages Memory = Unit {0}
 
 -- a key strictly between the bounds
 abbrev pub IsWithin : Bounds → List ℕ → Type 0

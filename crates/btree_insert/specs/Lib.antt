@@ -9,6 +9,7 @@ pub mod Edits
 pub mod Inserted
 pub mod Classes
 pub mod Reached
+pub mod Lookups
 pub mod Elements
 pub mod Examples
 pub mod Spelt

@@ -1,6 +1,6 @@
 -- What an edit leaves of the pages around a tree.
 use Rattle.std.specs.Prelude.{◌≡◌, ℕ, ◌+◌, ◌<◌, ◌≤◌, ◌⊎◌, List, length, Option}
-use Rattle.page_store.specs.PageMap.{PageMap, at, overlay, write_page}
+use Rattle.page_store.specs.PageMap.{PageMap, at, pages_with, write_page}
 use Rattle.page_store.specs.FreeNumbers.{candidate}
 use Rattle.page_store.specs.declared.page_edit.PageEdit.{PageEdit}
 use Rattle.btree_insert.specs.PageTrees.{IsIn, Apart}
@@ -34,7 +34,7 @@ taking pages new taken = pages_change (at pages) new (candidate pages) 0 taken
 
 -- a file's pages with what an edit writes now, where so many numbers were taken before
 abbrev pub edited : List (Option (List ℕ)) → ℕ → PageEdit → PagesChange
-edited pages taken edit = pages_change (at pages) (overlay (at pages) edit.writes.items) (candidate pages) taken edit.taken
+edited pages taken edit = pages_change (at pages) (pages_with (at pages) edit.writes.items) (candidate pages) taken edit.taken
 
 -- a file's pages with other bytes in one of them
 abbrev pub written_over : List (Option (List ℕ)) → ℕ → List ℕ → PagesChange

@@ -10,8 +10,9 @@ use Rattle.btree_node.specs.Spelling.{spelling, CanStand, IsSpelt}
 use Rattle.btree_insert.specs.declared.bounds.Bounds.{Bounds}
 use Rattle.btree_insert.specs.declared.step.Spot.{Spot}
 use Rattle.btree_insert.specs.declared.step.Step.{Step}
+use Rattle.btree_insert.specs.declared.tree.Tree.{Tree}
 use Rattle.btree_insert.specs.declared.step.Step.TheVariants.{Found, Ends, Goes}
-use Rattle.btree_insert.specs.Bounds.{AreWithin, son_bounds}
+use Rattle.btree_insert.specs.Bounds.{AreWithin, son_bounds, unbounded}
 use Rattle.btree_insert.specs.PageTrees.{Spells, kind_of_level}
 use Rattle.btree_insert.specs.Spelt.{AreSpeltIn}
 
@@ -20,6 +21,10 @@ pub record CanSearch (k : ℕ) (spot : Spot) (in_place : Bool) (pages : PagesVie
   pub order : IsSmallOrder k
   pub level : 0 < spot.level
   pub spelt : IsTrue in_place → AreSpeltIn k pages
+
+-- the page at the root of a tree, which no level above bounds
+abbrev pub root_spot : Tree → Spot
+root_spot tree = record { page = tree.root; level = tree.height; bounds = unbounded }
 
 -- the page spells a node that has a place i for a son: before, between or behind its keys
 abbrev pub HasSonAt : ℕ → List ℕ → ℕ → Type 0
@@ -32,7 +37,7 @@ Steps level n bounds key (Ends i) = (level ≡ 1) × IsPlace n.elements.items ke
 Steps level n bounds key (Goes i son between) = (1 < level) × IsPlace n.elements.items key i × (son ≡ slice_index_or n.sons.items i 0) × (between ≡ son_bounds n.elements.items i bounds)
 
 -- a node that belongs at a spot: of the kind of its level, its keys within the bounds
-pub record Belongs (spot : Spot) (n : Node) : Type 0 where
+pub record BelongsAt (spot : Spot) (n : Node) : Type 0 where
   pub kind : n.kind ≡ kind_of_level spot.level
   pub within : AreWithin spot.bounds n.elements.items
 
@@ -46,6 +51,6 @@ pub record IsKnown (k : ℕ) (pages : PagesView) (p : ℕ) (in_place : Bool) (re
 pub record Stepped (k : ℕ) (pages : PagesView) (spot : Spot) (key : List ℕ) (in_place : Bool) (read : List ℕ) (step : Step) : Type 0 where
   pub node : Node
   pub known : IsKnown k pages spot.page in_place read node
-  pub belongs : Belongs spot node
+  pub belongs : BelongsAt spot node
   pub spells : IsTrue pages.steady → Spells k (at pages.pages) spot.page node
   pub steps : Steps spot.level node spot.bounds key step

@@ -14,6 +14,12 @@ pub struct Bounds {
     pub high: Option<Key>,
 }
 
+/// No bounds: those of a root.
+pub const UNBOUNDED: Bounds = Bounds {
+    low: None,
+    high: None,
+};
+
 /// Whether the key is above the low bound, where there is one.
 pub(crate) fn is_over(low: &Option<Key>, key: &Key) -> bool
     ensures { IsTrue result ↔ Over low.now key.now }

@@ -1,19 +1,12 @@
-ghost use Rattle.std.specs.Prelude.{◌≡◌, ◌<◌, ◌≤◌, ℕ, None, Option, List, IsTrue, IfOk, MatchResult, true};
-ghost use Rattle.page_store.specs.PageMap.{at};
-ghost use Rattle.btree_node.specs.Lists.{Element};
-ghost use Rattle.btree_insert.specs.Bounds.{Between};
-ghost use Rattle.btree_insert.specs.Contents.{lookup_in};
-ghost use Rattle.btree_insert.specs.PageTrees.{Spells, TreeAt, Holds};
-ghost use Rattle.btree_insert.specs.Reached.{Leads, LeadsFrom};
-ghost use Rattle.btree_insert.specs.Spelt.{AreSpeltIn};
+ghost use Rattle.std.specs.Prelude.{◌≤◌, true};
 ghost use Rattle.btree_node.specs.Layout.{IsOrder};
+ghost use Rattle.btree_insert.specs.Lookups.{LooksUp, LooksUpBelow};
 ghost use Rattle.btree_insert.specs.Sizes.{greatest_height};
-ghost use Rattle.btree_insert.specs.Edits.{Looks};
+ghost use Rattle.btree_insert.specs.Spelt.{AreSpeltIn};
 ghost use Rattle.btree_insert.specs.Steps.{CanSearch};
 
-use crate::bounds::Bounds;
 use crate::reading::lies_at;
-use crate::step::{Spot, Step, step_in_page, take_step};
+use crate::step::{Spot, Step, root_spot, step_in_page, take_step};
 use crate::tree::{Tree, TreeFault};
 use page_store::{Pages, Store};
 use rec_types::{Key, PAGE_WIDTH, Record};
@@ -29,22 +22,12 @@ pub fn find<S: Store>(
 ) -> Result<Option<Record>, TreeFault>
     requires order { IsOrder tree.now.order }
     requires height { tree.now.height ≤ greatest_height }
-    ensures found { IsTrue pages.old.steady → (es : List Element) (us : List ℕ)
-        → Holds (at pages.old.pages) tree.now es us
-        → MatchResult result (λ found. found ≡ lookup_in key.now es)
-        (λ fault. fault ≡ TreeFault.Device) }
-    ensures led { IsTrue pages.old.steady → IfOk result (LeadsFrom
-        (Spells tree.now.order (at pages.old.pages)) key.now tree.now.height tree.now.root) }
-    ensures leads { IsTrue pages.old.steady → (led : Option (List ℕ))
-        → LeadsFrom (Spells tree.now.order (at pages.old.pages)) key.now tree.now.height
-        tree.now.root led → MatchResult result (λ found. found ≡ led)
-        (λ fault. fault ≡ TreeFault.Device) }
-    ensures reading { Looks tree.now.height pages.old result pages.new }
+    ensures { LooksUp tree.now key.now pages.old result pages.new }
 {
     if tree.height == 0 {
         return Ok(None);
     }
-    read_below(pages, tree.order, &root_of(tree), key, false)
+    read_below(pages, tree.order, &root_spot(tree), key, false)
 }
 
 /// The same as `find`, where each page in memory is known to spell a node of the order: it is searched
@@ -57,40 +40,12 @@ pub fn look_up<S: Store>(
     requires order { IsOrder tree.now.order }
     requires height { tree.now.height ≤ greatest_height }
     requires spelt { AreSpeltIn tree.now.order pages.old }
-    ensures found { IsTrue pages.old.steady → (es : List Element) (us : List ℕ)
-        → Holds (at pages.old.pages) tree.now es us
-        → MatchResult result (λ found. found ≡ lookup_in key.now es)
-        (λ fault. fault ≡ TreeFault.Device) }
-    ensures led { IsTrue pages.old.steady → IfOk result (LeadsFrom
-        (Spells tree.now.order (at pages.old.pages)) key.now tree.now.height tree.now.root) }
-    ensures leads { IsTrue pages.old.steady → (led : Option (List ℕ))
-        → LeadsFrom (Spells tree.now.order (at pages.old.pages)) key.now tree.now.height
-        tree.now.root led → MatchResult result (λ found. found ≡ led)
-        (λ fault. fault ≡ TreeFault.Device) }
-    ensures reading { Looks tree.now.height pages.old result pages.new }
+    ensures { LooksUp tree.now key.now pages.old result pages.new }
 {
     if tree.height == 0 {
         return Ok(None);
     }
-    look_up_below(pages, tree.order, &root_of(tree), key)
-}
-
-/// The page at the root.
-fn root_of(tree: &Tree) -> Spot
-    ensures { result ≡ record {
-      page = tree.now.root;
-      level = tree.now.height;
-      bounds = record { low = None; high = None };
-    } }
-{
-    Spot {
-        page: tree.root,
-        level: tree.height,
-        bounds: Bounds {
-            low: None,
-            high: None,
-        },
-    }
+    look_up_below(pages, tree.order, &root_spot(tree), key)
 }
 
 /// The record at the key in the tree below the page at a spot. Pages in memory, changed or kept, are searched where they
@@ -102,18 +57,7 @@ fn look_up_below<S: Store>(
     key: &Key,
 ) -> Result<Option<Record>, TreeFault>
     requires search { CanSearch order spot.now true pages.old }
-    ensures found { IsTrue pages.old.steady → (least : ℕ) (es : List Element) (us : List ℕ)
-        → TreeAt order (at pages.old.pages) least spot.now.level spot.now.page es us
-        → Between spot.now.bounds es
-        → MatchResult result (λ found. found ≡ lookup_in key.now es)
-        (λ fault. fault ≡ TreeFault.Device) }
-    ensures led { IsTrue pages.old.steady → IfOk result (Leads
-        (Spells order (at pages.old.pages)) key.now spot.now.level spot.now.page spot.now.bounds) }
-    ensures leads { IsTrue pages.old.steady → (led : Option (List ℕ))
-        → Leads (Spells order (at pages.old.pages)) key.now spot.now.level spot.now.page
-        spot.now.bounds led → MatchResult result (λ found. found ≡ led)
-        (λ fault. fault ≡ TreeFault.Device) }
-    ensures reading { Looks spot.now.level pages.old result pages.new }
+    ensures { LooksUpBelow order spot.now key.now pages.old result pages.new }
 {
     let Some(lies) = lies_at(pages, order, spot.page) else {
         return read_below(pages, order, spot, key, true);
@@ -142,18 +86,7 @@ fn read_below<S: Store>(
     in_place: bool,
 ) -> Result<Option<Record>, TreeFault>
     requires search { CanSearch order spot.now in_place pages.old }
-    ensures found { IsTrue pages.old.steady → (least : ℕ) (es : List Element) (us : List ℕ)
-        → TreeAt order (at pages.old.pages) least spot.now.level spot.now.page es us
-        → Between spot.now.bounds es
-        → MatchResult result (λ found. found ≡ lookup_in key.now es)
-        (λ fault. fault ≡ TreeFault.Device) }
-    ensures led { IsTrue pages.old.steady → IfOk result (Leads
-        (Spells order (at pages.old.pages)) key.now spot.now.level spot.now.page spot.now.bounds) }
-    ensures leads { IsTrue pages.old.steady → (led : Option (List ℕ))
-        → Leads (Spells order (at pages.old.pages)) key.now spot.now.level spot.now.page
-        spot.now.bounds led → MatchResult result (λ found. found ≡ led)
-        (λ fault. fault ≡ TreeFault.Device) }
-    ensures reading { Looks spot.now.level pages.old result pages.new }
+    ensures { LooksUpBelow order spot.now key.now pages.old result pages.new }
 {
     let mut bytes = [0; PAGE_WIDTH];
     find_below(pages, order, spot, key, in_place, &mut bytes)
@@ -170,18 +103,7 @@ fn find_below<S: Store>(
     bytes: &mut [u8; PAGE_WIDTH],
 ) -> Result<Option<Record>, TreeFault>
     requires search { CanSearch order spot.now in_place pages.old }
-    ensures found { IsTrue pages.old.steady → (least : ℕ) (es : List Element) (us : List ℕ)
-        → TreeAt order (at pages.old.pages) least spot.now.level spot.now.page es us
-        → Between spot.now.bounds es
-        → MatchResult result (λ found. found ≡ lookup_in key.now es)
-        (λ fault. fault ≡ TreeFault.Device) }
-    ensures led { IsTrue pages.old.steady → IfOk result (Leads
-        (Spells order (at pages.old.pages)) key.now spot.now.level spot.now.page spot.now.bounds) }
-    ensures leads { IsTrue pages.old.steady → (led : Option (List ℕ))
-        → Leads (Spells order (at pages.old.pages)) key.now spot.now.level spot.now.page
-        spot.now.bounds led → MatchResult result (λ found. found ≡ led)
-        (λ fault. fault ≡ TreeFault.Device) }
-    ensures reading { Looks spot.now.level pages.old result pages.new }
+    ensures { LooksUpBelow order spot.now key.now pages.old result pages.new }
 {
     match take_step(pages, order, spot, key, in_place, bytes)? {
         Step::Found(_, value) => Ok(Some(value)),

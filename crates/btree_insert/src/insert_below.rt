@@ -7,13 +7,13 @@ ghost use Rattle.btree_node.specs.Spelling.{spelling, CanStand, IsElement, IsSpe
 ghost use Rattle.btree_node.specs.Written.{with_elements};
 ghost use Rattle.btree_insert.specs.Bounds.{AreWithin, Between};
 ghost use Rattle.btree_insert.specs.declared.bounds.Bounds.{Bounds};
-ghost use Rattle.btree_insert.specs.Growth.{IsOutside, MayBeOverfull, WritesFit, TakesNumbers, SplitGoesUp, WritesOrSplits, Grew, replaced, CanInsert, GrowsWithin, MayGain, MayGainSon, with_son};
+ghost use Rattle.btree_insert.specs.Growth.{IsNotOfPages, MayBeOverfull, WritesFit, TakesNumbers, SplitGoesUp, WritesOrSplits, Grew, replaced, CanInsert, GrowsWithin, MayGain, MayGainSon, with_son};
 ghost use Rattle.btree_insert.specs.PageTrees.{Spells, TreeAt, Apart, tree_below};
 ghost use Rattle.btree_insert.specs.Reached.{Leads};
 ghost use Rattle.btree_node.specs.Layout.{IsOrder, IsSmallOrder};
 ghost use Rattle.btree_insert.specs.Steps.{IsKnown};
 ghost use Rattle.btree_insert.specs.PagesGrown.{edited};
-ghost use Rattle.btree_insert.specs.Edits.{CanSettle, IsInUse, Reads, OnlyWrites, WritesAndTakes, HasRoom};
+ghost use Rattle.btree_insert.specs.Edits.{CanSettle, IsInUse, Reads, OnlyWrites, WritesAndTakes, HasEditRoom};
 
 use crate::insert_in_one::{write_inserted, write_replaced, write_with_son};
 use crate::split_leaf::write_halves;
@@ -195,7 +195,7 @@ pub(crate) fn insert_below<S: Store>(
     in_place: bool,
 ) -> Result<Grown, TreeFault>
     requires can { CanInsert order spot.now in_place pages.old element }
-    requires room { HasRoom pages.old.pages edit.old visited.old.items spot.now.level }
+    requires room { HasEditRoom pages.old.pages edit.old visited.old.items spot.now.level }
     ensures grew { IsTrue pages.old.steady → edit.old.writes.items ≡ []
         → (least : ℕ) (es : List Element) (us : List ℕ)
         → TreeAt order (at pages.old.pages) least spot.now.level spot.now.page es us
@@ -204,7 +204,7 @@ pub(crate) fn insert_below<S: Store>(
         → MatchResult result
         (Grew (tree_below order least spot.now.level spot.now.page)
         (edited pages.old.pages edit.old.taken edit.new) es us element.0 element.1)
-        IsOutside }
+        IsNotOfPages }
     ensures led { IsTrue pages.old.steady → IfOk result (λ grown. Leads
         (Spells order (at pages.old.pages)) element.0 spot.now.level spot.now.page spot.now.bounds
         (replaced grown)) }

@@ -1,23 +1,23 @@
-ghost use Rattle.std.specs.Prelude.{◌≡◌, ◌+◌, ◌-◌, ◌<◌, ◌≤◌, ◌↔◌, ◌∷◌, ◌++◌, [], ℕ, List, None, true, false, IsTrue, IsSome, IfOk, IfSome, OnOk, MatchResult, length};
+ghost use Rattle.std.specs.Prelude.{◌≡◌, ◌+◌, ◌-◌, ◌<◌, ◌≤◌, ◌↔◌, ◌∷◌, ◌++◌, [], ℕ, List, None, true, false, IsTrue, IsSome, IfOk, IfSome, OnOk, length};
 ghost use Rattle.page_store.specs.FreeNumbers.{candidate, count_after};
 ghost use Rattle.page_store.specs.PageMap.{at};
 ghost use Rattle.page_store.specs.PagesView.{OnlyStages};
 ghost use Rattle.btree_node.specs.Lists.{Element};
 ghost use Rattle.btree_node.specs.Spelling.{spelling, CanStand, IsElement};
-ghost use Rattle.btree_insert.specs.Growth.{IsOutside, WritesFit, TakesNumbers, SplitGoesUp, Grew, replaced};
-ghost use Rattle.btree_insert.specs.Inserted.{leaf_of, root_of, Inserted, IsSmall, IsRefused};
+ghost use Rattle.btree_insert.specs.Bounds.{unbounded};
+ghost use Rattle.btree_insert.specs.Growth.{WritesFit, TakesNumbers, SplitGoesUp, Grew, replaced};
+ghost use Rattle.btree_insert.specs.Inserted.{leaf_of, root_of, Inserted, GrowsTree, Inserts, IsSmall};
 ghost use Rattle.btree_insert.specs.PageTrees.{Spells, Holds, tree_below};
 ghost use Rattle.btree_insert.specs.Reached.{LeadsFrom};
 ghost use Rattle.btree_insert.specs.Spelt.{AreSpeltIn, IsSpeltTree, IsTreeIn};
 ghost use Rattle.btree_node.specs.Layout.{IsSmallOrder};
 ghost use Rattle.btree_insert.specs.Sizes.{IsTree, greatest_size, greatest_height, IsPlanted, IsNext};
 ghost use Rattle.btree_insert.specs.PagesGrown.{edited, taking};
-ghost use Rattle.btree_insert.specs.Edits.{CanGrow, IsInUse, Reads, Stages, WritesAndTakes};
+ghost use Rattle.btree_insert.specs.Edits.{CanGrow, IsInUse, WritesAndTakes};
 
-use crate::bounds::Bounds;
 use crate::insert_below::{Grown, insert_below, write_node};
 use crate::insert_in_one::{change_of, place_in_one};
-use crate::step::Spot;
+use crate::step::root_spot;
 use crate::tree::{GREATEST_COUNT, GREATEST_HEIGHT, GREATEST_PAGE_COUNT, Tree, TreeFault};
 use arrayvec::ArrayVec;
 use btree_node::{Node, NodeKind};
@@ -107,19 +107,7 @@ fn grow_tree<S: Store>(
     in_place: bool,
 ) -> Result<Changed, TreeFault>
     requires { CanGrow in_place tree.now pages.old element edit.old }
-    ensures grew { IsTrue pages.old.steady → (es : List Element) (us : List ℕ)
-        → Holds (at pages.old.pages) tree.now es us
-        → MatchResult result
-        (λ changed. Inserted (edited pages.old.pages 0 edit.new) tree.now es us
-        element.0 element.1 (changed.tree, changed.old))
-        IsOutside }
-    ensures led { IsTrue pages.old.steady → IfOk result (λ changed. LeadsFrom
-        (Spells tree.now.order (at pages.old.pages)) element.0 tree.now.height tree.now.root
-        changed.old) }
-    ensures edit { WritesAndTakes tree.now.order pages.old.pages edit.old result edit.new }
-    ensures few { OnOk result (edit.new.taken ≤ greatest_height + 1) }
-    ensures next { IfOk result (λ changed. IsNext tree.now edit.new.taken changed.tree) }
-    ensures reading { Reads tree.now.height pages.old result pages.new }
+    ensures { GrowsTree tree.now element pages.old edit.old result pages.new edit.new }
 {
     if tree.height == 0 {
         return Ok(plant(pages, edit, tree, element)?);
@@ -137,35 +125,15 @@ fn grow_below<S: Store>(
 ) -> Result<Changed, TreeFault>
     requires height { 0 < tree.now.height }
     requires grow { CanGrow in_place tree.now pages.old element edit.old }
-    ensures grew { IsTrue pages.old.steady → (es : List Element) (us : List ℕ)
-        → Holds (at pages.old.pages) tree.now es us
-        → MatchResult result
-        (λ changed. Inserted (edited pages.old.pages 0 edit.new) tree.now es us
-        element.0 element.1 (changed.tree, changed.old))
-        IsOutside }
-    ensures led { IsTrue pages.old.steady → IfOk result (λ changed. LeadsFrom
-        (Spells tree.now.order (at pages.old.pages)) element.0 tree.now.height tree.now.root
-        changed.old) }
-    ensures edit { WritesAndTakes tree.now.order pages.old.pages edit.old result edit.new }
-    ensures few { OnOk result (edit.new.taken ≤ greatest_height + 1) }
-    ensures next { IfOk result (λ changed. IsNext tree.now edit.new.taken changed.tree) }
-    ensures reading { Reads tree.now.height pages.old result pages.new }
+    ensures { GrowsTree tree.now element pages.old edit.old result pages.new edit.new }
 {
-    let root = Spot {
-        page: tree.root,
-        level: tree.height,
-        bounds: Bounds {
-            low: None,
-            high: None,
-        },
-    };
     let mut visited = ArrayVec::new();
     let grown = insert_below(
         pages,
         edit,
         &mut visited,
         tree.order,
-        &root,
+        &root_spot(tree),
         element,
         in_place,
     )?;
@@ -186,7 +154,7 @@ fn changed_tree<S: Store>(
     requires in_use { IsInUse pages.now.pages tree.now.root }
     requires fits { WritesFit pages.now.pages edit.old.writes.items edit.old.taken }
     requires takes { TakesNumbers tree.now.height 0 edit.old.taken grown }
-    requires goes_up { SplitGoesUp (record { low = None; high = None }) grown }
+    requires goes_up { SplitGoesUp unbounded grown }
     ensures grew { (es : List Element) (us key value : List ℕ)
         → Holds (at pages.now.pages) tree.now es us
         → Grew (tree_below tree.now.order 1 tree.now.height tree.now.root)
@@ -298,21 +266,7 @@ pub fn insert<S: Store>(
     value: Record,
 ) -> Result<(Tree, Option<Record>), TreeFault>
     requires tree { IsTree tree.now }
-    ensures inserted { IsTrue pages.old.steady → (es : List Element) (us : List ℕ)
-        → Holds (at pages.old.pages) tree.now es us
-        → MatchResult result
-        (λ r. (taken : ℕ) × Inserted (taking pages.old.pages (at pages.new.pages) taken)
-        tree.now es us key value r)
-        (IsRefused pages.old.pages tree.now es us key value) }
-    ensures led { IsTrue pages.old.steady → IfOk result (λ r. LeadsFrom
-        (Spells tree.now.order (at pages.old.pages)) key tree.now.height tree.now.root r.1) }
-    ensures small { IfOk result (λ r. IsSmall r.0 (length pages.new.pages)) }
-    ensures page_count { IfOk result (λ r. (tree.now.used ≤ r.0.used)
-        × (length pages.new.pages ≡ count_after pages.old.pages (r.0.used - tree.now.used))) }
-    ensures changed { OnOk result (pages.new.changed ≡ true) }
-    ensures order { IfOk result (λ r. r.0.order ≡ tree.now.order) }
-    ensures spelt { AreSpeltIn tree.now.order pages.old → AreSpeltIn tree.now.order pages.new }
-    ensures stages { Stages tree.now.height pages.old result pages.new }
+    ensures { Inserts tree.now key value pages.old result pages.new }
 {
     insert_from_root(alloc, pages, tree, key, value, false)
 }
@@ -327,21 +281,7 @@ pub fn insert_in_place<S: Store>(
     value: Record,
 ) -> Result<(Tree, Option<Record>), TreeFault>
     requires { IsSpeltTree tree.now pages.old }
-    ensures inserted { IsTrue pages.old.steady → (es : List Element) (us : List ℕ)
-        → Holds (at pages.old.pages) tree.now es us
-        → MatchResult result
-        (λ r. (taken : ℕ) × Inserted (taking pages.old.pages (at pages.new.pages) taken)
-        tree.now es us key value r)
-        (IsRefused pages.old.pages tree.now es us key value) }
-    ensures led { IsTrue pages.old.steady → IfOk result (λ r. LeadsFrom
-        (Spells tree.now.order (at pages.old.pages)) key tree.now.height tree.now.root r.1) }
-    ensures small { IfOk result (λ r. IsSmall r.0 (length pages.new.pages)) }
-    ensures page_count { IfOk result (λ r. (tree.now.used ≤ r.0.used)
-        × (length pages.new.pages ≡ count_after pages.old.pages (r.0.used - tree.now.used))) }
-    ensures changed { OnOk result (pages.new.changed ≡ true) }
-    ensures order { IfOk result (λ r. r.0.order ≡ tree.now.order) }
-    ensures spelt { AreSpeltIn tree.now.order pages.new }
-    ensures stages { Stages tree.now.height pages.old result pages.new }
+    ensures { Inserts tree.now key value pages.old result pages.new }
 {
     if let Some(done) = insert_where_it_lies(pages, tree, element_of(key, value)) {
         return Ok(done);
@@ -382,15 +322,7 @@ fn insert_where_it_lies<S: Store>(
     if !is_small(pages, &grown, 0) {
         return None;
     }
-    let root = Spot {
-        page: tree.root,
-        level: tree.height,
-        bounds: Bounds {
-            low: None,
-            high: None,
-        },
-    };
-    let Some(placed) = place_in_one(pages, tree.order, &root, &element) else {
+    let Some(placed) = place_in_one(pages, tree.order, &root_spot(tree), &element) else {
         return None;
     };
     if pages.in_memory(placed.page).is_none() {
@@ -414,21 +346,7 @@ fn insert_from_root<S: Store>(
     in_place: bool,
 ) -> Result<(Tree, Option<Record>), TreeFault>
     requires { IsTreeIn in_place tree.now pages.old }
-    ensures inserted { IsTrue pages.old.steady → (es : List Element) (us : List ℕ)
-        → Holds (at pages.old.pages) tree.now es us
-        → MatchResult result
-        (λ r. (taken : ℕ) × Inserted (taking pages.old.pages (at pages.new.pages) taken)
-        tree.now es us key value r)
-        (IsRefused pages.old.pages tree.now es us key value) }
-    ensures led { IsTrue pages.old.steady → IfOk result (λ r. LeadsFrom
-        (Spells tree.now.order (at pages.old.pages)) key tree.now.height tree.now.root r.1) }
-    ensures small { IfOk result (λ r. IsSmall r.0 (length pages.new.pages)) }
-    ensures page_count { IfOk result (λ r. (tree.now.used ≤ r.0.used)
-        × (length pages.new.pages ≡ count_after pages.old.pages (r.0.used - tree.now.used))) }
-    ensures changed { OnOk result (pages.new.changed ≡ true) }
-    ensures order { IfOk result (λ r. r.0.order ≡ tree.now.order) }
-    ensures spelt { AreSpeltIn tree.now.order pages.old → AreSpeltIn tree.now.order pages.new }
-    ensures stages { Stages tree.now.height pages.old result pages.new }
+    ensures { Inserts tree.now key value pages.old result pages.new }
 {
     let mut edit = PageEdit {
         writes: Vec::new(alloc),

@@ -13,11 +13,11 @@ mod step;
 mod tree;
 mod walking;
 
-pub use bounds::{Bounds, are_within, bounds_of_son};
+pub use bounds::{Bounds, UNBOUNDED, are_within, bounds_of_son};
 pub use finding::{find, look_up};
 pub use insert_below::{was_visited, write_node};
 pub use inserting::{insert, insert_in_place};
 pub use reading::{kind_of_level, lies_at, read_into};
-pub use step::{Spot, Step, is_page_within, step_in_page};
+pub use step::{Spot, Step, is_page_within, root_spot, step_in_page};
 pub use tree::{GREATEST_HEIGHT, GREATEST_PAGE_COUNT, Tree, TreeFault};
 pub use walking::{tell, walk};

@@ -1,15 +1,15 @@
-ghost use Rattle.std.specs.Prelude.{◌≡◌, ◌<◌, ◌≤◌, ◌⊎◌, ◌↔◌, IsTrue, IsOk, IfOk, IfErr, OnOk, MatchResult};
+ghost use Rattle.std.specs.Prelude.{◌≡◌, ◌<◌, ◌⊎◌, ◌↔◌, IsTrue, IsOk, IfOk, IfErr, OnOk, MatchResult};
 ghost use Rattle.page_store.specs.PageMap.{at};
 ghost use Rattle.btree_node.specs.Spelling.{spelling, CanStand, IsNodePage};
 ghost use Rattle.btree_node.specs.declared.node.Node.{Node};
 ghost use Rattle.btree_insert.specs.Bounds.{AreWithin, low_at, high_at, son_bounds};
 ghost use Rattle.btree_insert.specs.PageTrees.{Spells};
-ghost use Rattle.btree_insert.specs.Steps.{Steps, Belongs, Stepped, CanSearch, HasSonAt};
+ghost use Rattle.btree_insert.specs.Steps.{Steps, BelongsAt, Stepped, CanSearch, HasSonAt, root_spot};
 ghost use Rattle.btree_insert.specs.Edits.{IsInUse, Reads};
 
-use crate::bounds::{Bounds, is_over, is_under};
+use crate::bounds::{Bounds, UNBOUNDED, is_over, is_under};
 use crate::reading::{kind_of_level, read_bytes};
-use crate::tree::TreeFault;
+use crate::tree::{Tree, TreeFault};
 use btree_node::{count_in, key_in, kind_in, place_in, record_in, son_in};
 use page_store::{Pages, Store};
 use rec_types::{Key, PAGE_WIDTH, Record};
@@ -23,6 +23,17 @@ pub struct Spot {
     pub level: u32,
     /// What all levels above say of its keys.
     pub bounds: Bounds,
+}
+
+/// The page at the root of a tree.
+pub fn root_spot(tree: &Tree) -> Spot
+    ensures { result ≡ root_spot tree.now }
+{
+    Spot {
+        page: tree.root,
+        level: tree.height,
+        bounds: UNBOUNDED,
+    }
 }
 
 /// Where the search for a key goes from a page.
@@ -49,7 +60,7 @@ pub(crate) fn take_step<S: Store>(
 ) -> Result<Step, TreeFault>
     requires search { CanSearch order spot.now in_place pages.old }
     ensures exact { IsTrue pages.old.steady → (m : Node)
-        → Spells order (at pages.old.pages) spot.now.page m → Belongs spot.now m
+        → Spells order (at pages.old.pages) spot.now.page m → BelongsAt spot.now m
         → MatchResult result (Steps spot.now.level m spot.now.bounds key.now)
         (λ fault. fault ≡ TreeFault.Device) }
     ensures stepped { IfOk result
@@ -79,10 +90,10 @@ pub fn step_in_page(
     requires page { IsNodePage order page.now }
     requires level { 0 < spot.now.level }
     ensures steps { (m : Node) → CanStand m order → page.now ≡ spelling m order
-        → IfOk result (λ step. Belongs spot.now m
+        → IfOk result (λ step. BelongsAt spot.now m
         × Steps spot.now.level m spot.now.bounds key.now step) }
     ensures exact { (m : Node) → CanStand m order → page.now ≡ spelling m order
-        → Belongs spot.now m → IsOk result }
+        → BelongsAt spot.now m → IsOk result }
     ensures fault { IfErr result (λ fault. fault ≡ TreeFault.Damaged spot.now.page) }
 {
     if kind_in(page) != kind_of_level(spot.level) || !is_page_within(page, order, &spot.bounds) {

@@ -2,7 +2,7 @@ ghost use Rattle.std.specs.Prelude.{◌≡◌, ◌+◌, ◌<◌, ◌≤◌, ◌+
 ghost use Rattle.page_store.specs.PageMap.{at};
 ghost use Rattle.btree_node.specs.Lists.{Element};
 ghost use Rattle.btree_insert.specs.Bounds.{Between};
-ghost use Rattle.btree_insert.specs.Growth.{IsOutside};
+ghost use Rattle.btree_insert.specs.Growth.{IsNotOfPages};
 ghost use Rattle.btree_insert.specs.PageTrees.{Spells, Fan, TreeOf, TreeAt, Holds};
 ghost use Rattle.btree_insert.specs.Reached.{Adds, Walks};
 ghost use Rattle.btree_node.specs.Layout.{IsSmallOrder};
@@ -10,7 +10,7 @@ ghost use Rattle.btree_insert.specs.Sizes.{IsTree};
 ghost use Rattle.btree_insert.specs.Edits.{Reads, Looks};
 ghost use Rattle.rec_types.specs.Told.{Takes, TellsAll, TellsSome};
 
-use crate::bounds::Bounds;
+use crate::bounds::{Bounds, UNBOUNDED};
 use crate::reading::{kind_of_level, read_into};
 use crate::tree::{Tree, TreeFault};
 use btree_node::Node;
@@ -61,7 +61,7 @@ pub fn walk<S: Store>(
     requires tree { IsTree tree.now }
     ensures walked { IsTrue pages.old.steady → (es : List Element) (us : List ℕ)
         → Holds (at pages.old.pages) tree.now es us
-        → MatchResult result (λ elements. elements.items ≡ es) IsOutside }
+        → MatchResult result (λ elements. elements.items ≡ es) IsNotOfPages }
     ensures there { IsTrue pages.old.steady → IfOk result
         (λ elements. Walks (Spells tree.now.order (at pages.old.pages)) tree.now elements.items) }
     ensures reading { Reads tree.now.used pages.old result pages.new }
@@ -99,10 +99,7 @@ pub fn tell<O, S: Store, K: RecordSink<O>>(
     }
     let above = Above {
         height: tree.height,
-        bounds: Bounds {
-            low: None,
-            high: None,
-        },
+        bounds: UNBOUNDED,
     };
     let mut left = tree.used;
     tell_below(pages, sink, out, &mut left, tree.order, tree.root, &above)

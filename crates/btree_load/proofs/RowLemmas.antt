@@ -17,7 +17,7 @@ use Rattle.btree_delete.specs.CleanFile.{in_file}
 use Rattle.page_store.specs.declared.store_state.StoreState.{Ghosts}
 use Rattle.btree_load.specs.Filling.{HasPages, KeepsLength}
 use Rattle.btree_load.proofs.ShapeLemmas.{same_pages}
-use Rattle.btree_load.specs.Rows.{HasRoom, wide, from, IsWide, StandsFor, IsRow, AreFewest, TakesShare}
+use Rattle.btree_load.specs.Rows.{HasLevelRoom, wide, from, IsWide, NodeStandsFor, IsRow, AreFewest, TakesShare}
 use Rattle.btree_load.proofs.FanLemmas.{Front, front_push, front_end, front_map, new_page, tree_before, body_before}
 
 -- what stands behind what stands behind
@@ -109,10 +109,10 @@ pub record Progress (k : ℕ) (stored : List (List ℕ)) (least h at : ℕ) (n :
   pub gone : List ℕ
   pub vs : List ℕ
   pub front : Front (TreeAt k (in_file stored) least (suc h)) sons between done gone
-  pub rest : StandsFor k stored h (from at n) ys vs
+  pub rest : NodeStandsFor k stored h (from at n) ys vs
   pub es_is : es ≡ done ++ ys
 
-pub row_begins : (k : ℕ) (stored : List (List ℕ)) (least h : ℕ) (kind : NodeKind) (els es between : List Element) (sons us made : List ℕ) → made ≡ [] → between ≡ [] → StandsFor k stored h (wide kind els sons) es us → Progress k stored least h 0 (wide kind els sons) made between es
+pub row_begins : (k : ℕ) (stored : List (List ℕ)) (least h : ℕ) (kind : NodeKind) (els es between : List Element) (sons us made : List ℕ) → made ≡ [] → between ≡ [] → NodeStandsFor k stored h (wide kind els sons) es us → Progress k stored least h 0 (wide kind els sons) made between es
 row_begins k stored least h kind els es between sons us made none_made none_between stands = record {
   done = [];
   ys = es;
@@ -124,7 +124,7 @@ row_begins k stored least h kind els es between sons us made none_made none_betw
 }
 
 -- the tree of a page that was added
-pub page_tree : (k : ℕ) (stored : List (List ℕ)) (least h : ℕ) (n : Node) (es : List Element) (us : List ℕ) → 0 < length stored → CanStand n k → least ≤ length n.elements.items → StandsFor k stored h n es us
+pub page_tree : (k : ℕ) (stored : List (List ℕ)) (least h : ℕ) (n : Node) (es : List Element) (us : List ℕ) → 0 < length stored → CanStand n k → least ≤ length n.elements.items → NodeStandsFor k stored h n es us
     → TreeAt k (in_file (stored ++ spelling n k ∷ [])) least (suc h) (length stored) es (length stored ∷ us)
 page_tree k stored least h n es us some stands least_is body =
     (n, us, record { page = new_page stored (spelling n k) some; stands = stands }, least_is, body_before k stored (spelling n k ∷ []) h n es us body, refl)
@@ -148,7 +148,7 @@ step_here k least h at size stored n sons between es x stands some least_is low 
       gone = p.gone ++ length stored ∷ cut.before;
       vs = cut.behind;
       front = front_push (TreeAt k (in_file (stored ++ more)) least (suc h)) sons between p.done p.gone (length stored) x cut.xs (length stored ∷ cut.before) kept tree;
-      rest = body_before k stored more h (from (at + (size + 1)) n) cut.ys cut.behind (subst (λ (m : Node). StandsFor k stored h m cut.ys cut.behind) (right_is at size n) cut.right_body);
+      rest = body_before k stored more h (from (at + (size + 1)) n) cut.ys cut.behind (subst (λ (m : Node). NodeStandsFor k stored h m cut.ys cut.behind) (right_is at size n) cut.right_body);
       es_is = p.es_is ∙ ap (λ zs. p.done ++ zs) (cut.es_is ∙ sym (append_assoc cut.xs (x ∷ []) cut.ys)) ∙ sym (append_assoc p.done (cut.xs ++ x ∷ []) cut.ys);
     }
 
@@ -165,7 +165,7 @@ end_here : (k least h at size : ℕ) (stored : List (List ℕ)) (n : Node) (sons
 end_here k least h at size stored n sons between es is stands some least_is whole p =
     let page = left_of size (from at n) in
     let more = spelling page k ∷ [] in
-    let body = subst (λ (m : Node). StandsFor k stored h m p.ys p.vs) (sym (all_left at size n whole is)) p.rest in
+    let body = subst (λ (m : Node). NodeStandsFor k stored h m p.ys p.vs) (sym (all_left at size n whole is)) p.rest in
     let taken : length (take size (drop at n.elements.items)) ≡ size = length-take-le size (drop at n.elements.items) (omega (arith, length-drop at n.elements.items)) in
     let tree = page_tree k stored least h page p.ys p.vs some stands (omega (arith, taken)) body in
     let kept = front_map (TreeAt k (in_file stored) least (suc h)) (TreeAt k (in_file (stored ++ more)) least (suc h)) (λ s xs vs t. tree_before k stored more least (suc h) s xs vs t) sons between p.done p.gone p.front in
@@ -285,7 +285,7 @@ next_page k count at pages most (inr (few, last)) within fewest =
     omega (arith, same)
 
 -- and the store has room for it
-pub has_next : {S : Type 0} (s : Ghosts S) (k elements at pages before count : ℕ) (old store : S) → HasRoom s k before elements old → KeepsLength s old store → count ≡ before + pages → Fullness k elements at pages → at ≤ elements → HasPages s count 1 store
+pub has_next : {S : Type 0} (s : Ghosts S) (k elements at pages before count : ℕ) (old store : S) → HasLevelRoom s k before elements old → KeepsLength s old store → count ≡ before + pages → Fullness k elements at pages → at ≤ elements → HasPages s count 1 store
 has_next s k elements at pages before count old store room same count_is full within =
     let low = next_page k elements at pages room.pages full within room.fewest in
     record {

@@ -13,7 +13,7 @@ use Rattle.btree_delete.specs.CleanFile.{in_file}
 use Rattle.page_store.specs.declared.store_state.StoreState.{Ghosts}
 use Rattle.btree_load.specs.Filling.{HasPages, KeepsLength}
 use Rattle.btree_load.proofs.ShapeLemmas.{same_pages}
-use Rattle.btree_load.specs.Rows.{HasRoom, wide, StandsFor, IsRow, AreFewest}
+use Rattle.btree_load.specs.Rows.{HasLevelRoom, wide, NodeStandsFor, IsRow, AreFewest}
 use Rattle.btree_load.specs.Trees.{AreLevels, HasLevels, HasRoot}
 
 -- a level of pages, of which the last alone may have fewer than k elements
@@ -23,7 +23,7 @@ pub record Rows (k : ℕ) (stored : List (List ℕ)) (row : Node) (es : List Ele
   pub many : 0 < length row.elements.items → IsRow k stored k (suc h) row es
 
 -- a level of pages stands for what it was made of
-pub level_above : (k : ℕ) (stored : List (List ℕ)) (els : List Element) (sons : List ℕ) (es : List Element) → 0 < length els → (rows : Rows k stored (wide Inner els sons) es) → (us : List ℕ) × StandsFor k stored (suc rows.h) (wide Inner els sons) es us
+pub level_above : (k : ℕ) (stored : List (List ℕ)) (els : List Element) (sons : List ℕ) (es : List Element) → 0 < length els → (rows : Rows k stored (wide Inner els sons) es) → (us : List ℕ) × NodeStandsFor k stored (suc rows.h) (wide Inner els sons) es us
 level_above k stored els sons es some rows = ((rows.many some).us, (refl, (rows.many some).fan))
 
 -- several pages have enough elements
@@ -39,10 +39,10 @@ sum_of : (n : ℕ) (ns : List ℕ) → sum (n ∷ ns) ≡ n + sum ns
 sum_of n ns = sum_by-cons (λ m. m) n ns
 
 -- the pages of the lowest level of those that follow
-pub levels_first : {S : Type 0} (s : Ghosts S) (k count elements : ℕ) (store : S) → 0 < elements → HasLevels s k count elements store → HasRoom s k count elements store
+pub levels_first : {S : Type 0} (s : Ghosts S) (k count elements : ℕ) (store : S) → 0 < elements → HasLevels s k count elements store → HasLevelRoom s k count elements store
 levels_first s k count elements store some room = at room.levels room.are room.has
   where
-    at : (levels : List ℕ) → AreLevels k elements levels → HasPages s count (sum levels) store → HasRoom s k count elements store
+    at : (levels : List ℕ) → AreLevels k elements levels → HasPages s count (sum levels) store → HasLevelRoom s k count elements store
     at [] none has = absurd (omega (arith, none, some))
     at (p ∷ levels) (any, fewest, rest) has = record {
       pages = p;

@@ -11,10 +11,10 @@ told_fault store.Failed = Device
 told_fault store.Memory = Memory
 
 -- whether a call of the store failed
-abbrev pub is_device_fault : FillFault → Bool
-is_device_fault Device = true
-is_device_fault Memory = false
+abbrev pub is_fill_device_fault : FillFault → Bool
+is_fill_device_fault Device = true
+is_fill_device_fault Memory = false
 
-abbrev pub is_device : {X : Type 0} → Result X FillFault → Bool
-is_device (Ok x) = false
-is_device (Err fault) = is_device_fault fault
+abbrev pub is_fill_device : {X : Type 0} → Result X FillFault → Bool
+is_fill_device (Ok x) = false
+is_fill_device (Err fault) = is_fill_device_fault fault

@@ -4,7 +4,7 @@ use Rattle.rec_types.specs.Table.{counted}
 use Rattle.page_store.specs.FreeNumbers.{greatest_page_count}
 use Rattle.page_store.specs.Guards.{Guard, may_grow, may_write}
 use Rattle.page_store.specs.declared.store_state.StoreState.{Ghosts}
-use Rattle.btree_load.specs.Faults.{is_device}
+use Rattle.btree_load.specs.Faults.{is_fill_device}
 use Rattle.btree_load.specs.declared.fault.FillFault.{FillFault}
 
 -- each page may be written over, and the store may be made longer
@@ -13,12 +13,12 @@ pub record IsOpen (guard : Guard) : Type 0 where
   pub writes : (n : ℕ) → IsTrue (may_write guard n)
 
 -- Changing calls were made, up to the first that failed. Where all of them are allowed none was refused.
-pub record Fills {S A : Type 0} (s : Ghosts S) (old : S) (answer : Result A FillFault) (new : S) : Type 0 where
+pub record FillsStore {S A : Type 0} (s : Ghosts S) (old : S) (answer : Result A FillFault) (new : S) : Type 0 where
   pub steady : s.steady new ≡ s.steady old
   pub opening : s.opening new ≡ s.opening old
   pub reads : s.reads new ≡ s.reads old
   pub shapes : s.shapes new ≡ s.shapes old
-  pub failures : s.failures new ≡ counted (s.failures old) (is_device answer)
+  pub failures : s.failures new ≡ counted (s.failures old) (is_fill_device answer)
   pub guard : IsOpen (s.guard old) → s.guard new ≡ s.guard old
 
 -- a store whose first pages were written, so many with page 0, and which has so many more for what follows
@@ -28,8 +28,8 @@ pub record HasPages {S : Type 0} (s : Ghosts S) (count more : ℕ) (store : S) :
   pub most : length (s.pages store) ≤ greatest_page_count
 
 -- those that were written
-abbrev pub written : {S : Type 0} → Ghosts S → ℕ → S → List (List ℕ)
-written s count store = take count (s.pages store)
+abbrev pub written_pages : {S : Type 0} → Ghosts S → ℕ → S → List (List ℕ)
+written_pages s count store = take count (s.pages store)
 
 -- calls that keep the length of a store
 pub record KeepsLength {S : Type 0} (s : Ghosts S) (old new : S) : Type 0 where

@@ -27,8 +27,8 @@ pub record IsWide (n : Node) : Type 0 where
   pub sons : SonsFit n.kind (length n.elements.items) n.sons.items
 
 -- what a node with so many levels below it stands for, in the pages of a file of order k
-abbrev pub StandsFor : ℕ → List (List ℕ) → ℕ → Node → List Element → List ℕ → Type 0
-StandsFor k stored h n es us = Body (TreeAt k (in_file stored) k h) h n es us
+abbrev pub NodeStandsFor : ℕ → List (List ℕ) → ℕ → Node → List Element → List ℕ → Type 0
+NodeStandsFor k stored h n es us = Body (TreeAt k (in_file stored) k h) h n es us
 
 -- pages with the elements between them stand for trees of so many levels, each first page of at least so many elements
 pub record IsRow (k : ℕ) (stored : List (List ℕ)) (least h : ℕ) (row : Node) (es : List Element) : Type 0 where
@@ -50,7 +50,7 @@ pub record TakesShare (k left taken : ℕ) : Type 0 where
   pub even : left ≤ 3 * k → (2 * taken < left) × (left ≤ 2 * taken + 2)
 
 -- a store has room for the pages of a level of so many elements
-pub record HasRoom {S : Type 0} (s : Ghosts S) (k count elements : ℕ) (store : S) : Type 0 where
+pub record HasLevelRoom {S : Type 0} (s : Ghosts S) (k count elements : ℕ) (store : S) : Type 0 where
   pub pages : ℕ
   pub fewest : AreFewest k elements pages
   pub has : HasPages s count pages store

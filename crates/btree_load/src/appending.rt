@@ -1,5 +1,5 @@
 ghost use Rattle.std.specs.Prelude.{◌≡◌, ◌+◌, ◌++◌, ◌∷◌, [], IsTrue, IfOk, OnOk};
-ghost use Rattle.btree_load.specs.Filling.{Fills, HasPages, KeepsLength, written};
+ghost use Rattle.btree_load.specs.Filling.{FillsStore, HasPages, KeepsLength, written_pages};
 
 use crate::fault::FillFault;
 use page_store::Store;
@@ -15,9 +15,9 @@ pub(crate) fn append_page<S: Store>(
     ensures number { IfOk result (λ n. n ≡ count.old) }
     ensures count { OnOk result (count.new ≡ count.old + 1) }
     ensures long { KeepsLength S.StoreState store.old store.new }
-    ensures pages { IsTrue (S.steady store.old) → OnOk result (written S.StoreState count.new store.new
-        ≡ written S.StoreState count.old store.old ++ page.now ∷ []) }
-    ensures fills { Fills S.StoreState store.old result store.new }
+    ensures pages { IsTrue (S.steady store.old) → OnOk result (written_pages S.StoreState count.new store.new
+        ≡ written_pages S.StoreState count.old store.old ++ page.now ∷ []) }
+    ensures fills { FillsStore S.StoreState store.old result store.new }
 {
     let n = *count;
     store.write(n, page)?;

@@ -3,7 +3,7 @@ ghost use Rattle.btree_node.specs.HeaderSpelling.{header_spelling, clean_state, 
 ghost use Rattle.btree_node.specs.Layout.{IsOrder, second_version};
 ghost use Rattle.btree_node.specs.Lists.{Ascends};
 ghost use Rattle.btree_insert.specs.Sizes.{greatest_size};
-ghost use Rattle.btree_load.specs.Filling.{Fills, KeepsLength, written};
+ghost use Rattle.btree_load.specs.Filling.{FillsStore, KeepsLength, written_pages};
 ghost use Rattle.btree_load.specs.Trees.{AreLevels, HasLevels, HasRoot, IsFilled};
 
 use crate::fault::FillFault;
@@ -43,10 +43,10 @@ fn write_tree<S: Store>(
     requires ascends { Ascends records.now }
     requires room { HasLevels S.StoreState k count.old (length records.now) store.old }
     ensures tree { IsTrue (S.steady store.old) → IfOk result
-        (λ root. HasRoot k (written S.StoreState count.new store.new) root records.now) }
+        (λ root. HasRoot k (written_pages S.StoreState count.new store.new) root records.now) }
     ensures all { OnOk result (count.new ≡ length (S.pages store.new)) }
     ensures long { KeepsLength S.StoreState store.old store.new }
-    ensures fills { Fills S.StoreState store.old result store.new }
+    ensures fills { FillsStore S.StoreState store.old result store.new }
 {
     if records.is_empty() {
         return Ok(0);
@@ -74,7 +74,7 @@ fn put_header<S: Store>(store: &mut S, header: &Header, clean: bool) -> Result<(
     ensures page { IsTrue (S.steady store.old) → OnOk result (S.pages store.new ≡ slice_set
         (S.pages store.old) 0 (header_spelling header.now (if clean then clean_state else writing_state))) }
     ensures long { KeepsLength S.StoreState store.old store.new }
-    ensures fills { Fills S.StoreState store.old result store.new }
+    ensures fills { FillsStore S.StoreState store.old result store.new }
 {
     store.write(0, &write_header(header, clean))?;
     store.sync()?;
@@ -101,7 +101,7 @@ pub fn fill<S: Store>(
         → OnOk result (IsFilled k (S.pages store.new) (S.tail store.new) records.now) }
     ensures levels { OnOk result ((levels : List ℕ) × AreLevels k (length records.now) levels
         × (length (S.pages store.new) ≡ 1 + sum levels)) }
-    ensures fills { Fills S.StoreState store.old result store.new }
+    ensures fills { FillsStore S.StoreState store.old result store.new }
 {
     let mut header = Header {
         version: SECOND_VERSION,

@@ -4,8 +4,8 @@ ghost use Rattle.btree_node.specs.Layout.{IsOrder, most_keys};
 ghost use Rattle.btree_node.specs.Lists.{Element, Each};
 ghost use Rattle.btree_node.specs.Spelling.{IsElement};
 ghost use Rattle.btree_node.specs.declared.node.NodeKind.TheVariants.{Inner};
-ghost use Rattle.btree_load.specs.Filling.{Fills, KeepsLength, written};
-ghost use Rattle.btree_load.specs.Rows.{wide, from, IsWide, StandsFor, IsRow, AreFewest, HasRoom, TakesShare};
+ghost use Rattle.btree_load.specs.Filling.{FillsStore, KeepsLength, written_pages};
+ghost use Rattle.btree_load.specs.Rows.{wide, from, IsWide, NodeStandsFor, IsRow, AreFewest, HasLevelRoom, TakesShare};
 
 use crate::appending::append_page;
 use crate::fault::FillFault;
@@ -96,18 +96,18 @@ pub(crate) fn write_row<S: Store>(
     requires order { IsOrder k }
     requires some { 0 < length elements.now }
     requires wide { IsWide (wide kind elements.now sons.now) }
-    requires room { HasRoom S.StoreState k count.old (length elements.now) store.old }
+    requires room { HasLevelRoom S.StoreState k count.old (length elements.now) store.old }
     ensures row { IsTrue (S.steady store.old) → (least h : ℕ) (es : List Element) (us : List ℕ)
         → least ≤ k → least ≤ length elements.now
-        → StandsFor k (written S.StoreState count.old store.old) h
+        → NodeStandsFor k (written_pages S.StoreState count.old store.old) h
         (wide kind elements.now sons.now) es us
-        → IfOk result (λ row. IsRow k (written S.StoreState count.new store.new) least (suc h)
+        → IfOk result (λ row. IsRow k (written_pages S.StoreState count.new store.new) least (suc h)
         (wide Inner row.between.items row.sons.items) es) }
     ensures wide { IfOk result (λ row. IsWide (wide Inner row.between.items row.sons.items)) }
     ensures fewest { IfOk result (λ row. AreFewest k (length elements.now) (length row.sons.items)) }
     ensures count { IfOk result (λ row. count.new ≡ count.old + length row.sons.items) }
     ensures long { KeepsLength S.StoreState store.old store.new }
-    ensures fills { Fills S.StoreState store.old result store.new }
+    ensures fills { FillsStore S.StoreState store.old result store.new }
 {
     let mut row = Row {
         sons: Vec::new(alloc),

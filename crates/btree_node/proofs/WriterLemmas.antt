@@ -6,7 +6,7 @@ use borrow.Rule.Slice.PartMut.{put_mid}
 use Rattle.rec_types.proofs.Padding.{length-padded, take-padded}
 use Rattle.btree_node.specs.declared.page_writer.PageWriter.TheInside.{Inside}
 use Rattle.btree_node.specs.Spelling.{field}
-use Rattle.btree_node.specs.Written.{written, IsWriter}
+use Rattle.btree_node.specs.Written.{written_bytes, IsWriter}
 
 -- a list, padded and then cut at a later place
 pub padded_more : (width : ℕ) (xs : List ℕ) (more : ℕ) → length xs + more ≤ width → padded width xs ≡ padded width (xs ++ replicate more 0)
@@ -34,7 +34,7 @@ put_padded width xs ys page at is len fits =
     rw (front, zeros) (sym (append_assoc xs ys _))
 
 -- the front of a writer's page up to a later place
-pub written_more : (w : Inside) (to : ℕ) → IsWriter w → w.at ≤ to → to ≤ 4096 → take to w.page ≡ written w ++ replicate (to - w.at) 0
+pub written_more : (w : Inside) (to : ℕ) → IsWriter w → w.at ≤ to → to ≤ 4096 → take to w.page ≡ written_bytes w ++ replicate (to - w.at) 0
 written_more w to is up within =
     let len : length (take w.at w.page) ≡ w.at = length-take-le w.at w.page (omega (arith, is.whole, is.within)) in
     ap (take to) is.zeros

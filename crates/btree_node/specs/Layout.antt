@@ -71,12 +71,12 @@ abbrev pub CanHoldSons : Layout → ℕ → ℕ → Type 0
 CanHoldSons layout k count = IsNarrow layout × IsSmallOrder k × (count ≤ most_keys + 1)
 
 -- where the record's length stands in a place, behind the key's length and the key
-abbrev pub record_at : ℕ
-record_at = 1 + key_width
+abbrev pub record_start : ℕ
+record_start = 1 + key_width
 
 -- the bytes of a place: a key and a record, each behind its length
 abbrev pub place_width : Layout → ℕ
-place_width layout = record_at + 1 + layout.record_width
+place_width layout = record_start + 1 + layout.record_width
 
 -- where place i begins
 abbrev pub place_start : Layout → ℕ → ℕ

@@ -9,7 +9,7 @@ use Rattle.btree_node.specs.declared.node.NodeKind.{NodeKind}
 use Rattle.btree_node.specs.declared.node.NodeKind.TheVariants.{Leaf, Inner}
 use Rattle.btree_node.specs.declared.node.NodeFault.{NodeFault}
 use Rattle.btree_node.specs.declared.node.NodeFault.TheVariants.{Kind, Count, KeyLength, RecordLength, Order, Son, NotZero}
-use Rattle.btree_node.specs.Layout.{second_layout, record_at, place_width, place_start, sons_start}
+use Rattle.btree_node.specs.Layout.{second_layout, record_start, place_width, place_start, sons_start}
 use Rattle.btree_node.specs.Lists.{Element, Each, Ascends}
 
 -- some bytes of a page
@@ -37,10 +37,10 @@ unfoldable pub key_length : List ℕ → ℕ
 key_length place = slice_index place 0
 
 unfoldable pub record_length : List ℕ → ℕ
-record_length place = slice_index place record_at
+record_length place = slice_index place record_start
 
 unfoldable pub element_in : List ℕ → Element
-element_in place = (part 1 (slice_index place 0) place, part (record_at + 1) (slice_index place record_at) place)
+element_in place = (part 1 (slice_index place 0) place, part (record_start + 1) (slice_index place record_start) place)
 
 unfoldable pub elements_at : Layout → List ℕ → ℕ → List Element
 elements_at layout page count = map (λ i. element_in (place_at layout page i)) (range_with_len 0 count)
@@ -86,7 +86,7 @@ pub record PaddingIsZero (layout : Layout) (k : ℕ) (page : List ℕ) (count so
   pub second : IsZero (part 1 1 page)
   pub head : IsZero (part 4 4 page)
   pub keys : (i : ℕ) → i < count → IsZero (part (1 + key_length (place_at layout page i)) (key_width - key_length (place_at layout page i)) (place_at layout page i))
-  pub records : (i : ℕ) → i < count → IsZero (part (record_at + 1 + record_length (place_at layout page i)) (layout.record_width - record_length (place_at layout page i)) (place_at layout page i))
+  pub records : (i : ℕ) → i < count → IsZero (part (record_start + 1 + record_length (place_at layout page i)) (layout.record_width - record_length (place_at layout page i)) (place_at layout page i))
   pub places : IsZero (part (place_start layout count) (place_width layout * (2 * k - count)) page)
   pub rest : IsZero (drop (sons_start layout k + 4 * sons) page)
 
@@ -96,7 +96,7 @@ pub record IsGoodPlace (place : List ℕ) : Type 0 where
   pub most : key_length place ≤ key_width
   pub fits : record_length place ≤ second_layout.record_width
   pub behind_key : IsZero (part (1 + key_length place) (key_width - key_length place) place)
-  pub behind_record : IsZero (part (record_at + 1 + record_length place) (second_layout.record_width - record_length place) place)
+  pub behind_record : IsZero (part (record_start + 1 + record_length place) (second_layout.record_width - record_length place) place)
 
 -- the page passes the test for a fault
 unfoldable pub Passes : Layout → ℕ → List ℕ → NodeFault → Type 0

@@ -6,8 +6,8 @@ use Rattle.btree_node.specs.Lists.{Element}
 use Rattle.btree_node.specs.declared.node.Node.{Node}
 use Rattle.btree_node.specs.declared.page_writer.PageWriter.TheInside.{Inside}
 
-abbrev pub written : Inside → List ℕ
-written w = take w.at w.page
+abbrev pub written_bytes : Inside → List ℕ
+written_bytes w = take w.at w.page
 
 -- the rest of the page is zero
 pub record IsWriter (w : Inside) : Type 0 where

@@ -1,6 +1,6 @@
 ghost use Rattle.std.specs.Prelude.{◌≡◌, ℕ, ◌+◌, ◌*◌, ◌^◌, ◌<◌, ◌≤◌, ◌↔◌, [], Ok, IfOk, IfErr, OnOk, IsOk, MatchResult, length, All, IsTrue};
 ghost use Rattle.rec_types.specs.Widths.{key_width, widest_record};
-ghost use Rattle.btree_node.specs.Layout.{first_layout, second_layout, layout_of, record_at, place_width, sons_start, most_keys, IsSmallOrder, IsNarrow, CanHoldKeys, CanHoldOrder, CanHoldSons};
+ghost use Rattle.btree_node.specs.Layout.{first_layout, second_layout, layout_of, record_start, place_width, sons_start, most_keys, IsSmallOrder, IsNarrow, CanHoldKeys, CanHoldOrder, CanHoldSons};
 ghost use Rattle.btree_node.specs.Lists.{Below, Ascends};
 ghost use Rattle.btree_node.specs.Spelling.{spelling, spelling_in, CanStand, CanStandIn};
 ghost use Rattle.btree_node.specs.Reading.{kind_at, count_at, place_at, element_in, elements_at, son_at, sons_at, sons_of_kind, kind_read, node_at, key_length, record_length, KeyLengths, RecordLengths, PassesBefore, FirstFault, FirstFaultIn};
@@ -238,7 +238,7 @@ fn element_of(place: &[u8]) -> (Key, Record)
     requires key_some { 0 < key_length place.now }
     requires key_most { key_length place.now ≤ key_width }
     requires record_most { record_length place.now ≤ widest_record }
-    requires record_within { record_at + 1 + record_length place.now ≤ length place.now }
+    requires record_within { record_start + 1 + record_length place.now ≤ length place.now }
     ensures { result ≡ element_in place.now }
 {
     let key = Key::new(part_of(place, 1, place[0] as usize));

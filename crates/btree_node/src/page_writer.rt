@@ -23,9 +23,9 @@ impl Model for PageWriter {
 
     ghost coded = { coded_list coded_ℕ };
 
-    ghost use Rattle.btree_node.specs.Written.{written, IsWriter};
+    ghost use Rattle.btree_node.specs.Written.{written_bytes, IsWriter};
 
-    ghost view = { written };
+    ghost view = { written_bytes };
 
     ghost invariant = { IsWriter };
 }

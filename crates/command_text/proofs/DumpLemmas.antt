@@ -16,8 +16,8 @@ use Rattle.command_text.specs.declared.command.Command.TheVariants as command
 use Rattle.command_text.specs.declared.command.LineFault.TheVariants.{KeyTooLong, RecordTooLong}
 use Rattle.command_text.specs.Dump.{put_text, put_line, dump_text, put_of, dump_commands, CanBePut}
 use Rattle.command_text.specs.Examples.{tx}
-use Rattle.command_text.specs.Grammar.{Read, ◌>>=◌, read_as, or_fault, is_space, is_word, words_of, key_at, record_at, command_of, value_of, tx_command_of, line_of_words, line_of}
-use Rattle.command_text.specs.Script.{is_lf, without_empty_last, lines_of, keep, entries_in, entries_of}
+use Rattle.command_text.specs.Grammar.{Read, ◌>>=◌, read_as, or_fault, is_space, is_word, words_of, key_from_word, record_from_word, command_of, value_of, tx_command_of, line_of_words, line_of}
+use Rattle.command_text.specs.Script.{is_lf, without_empty_last, lines_of, keep, entries_in, commands_of}
 use Rattle.command_text.specs.Texts.{is_escaped, is_plain, escaped_byte, escaped, line}
 use Rattle.command_text.proofs.EscapeLaws.{read_back, plain}
 
@@ -114,7 +114,7 @@ put_words key value key_plain value_plain word =
     ∙ ap (λ (t : Bool). codes "put" ∷ codes "1" ∷ cond t (key ∷ (61 ∷ value) ∷ []) ((61 ∷ value) ∷ [])) word
 
 -- what those words say
-put_said : (key value : List ℕ) (k r : List ℕ) → key_at key ≡ Ok k → record_at (61 ∷ value) ≡ Ok r → line_of_words (codes "put" ∷ codes "1" ∷ key ∷ (61 ∷ value) ∷ []) ≡ Ok (Some (command.Put (tx 1) k r))
+put_said : (key value : List ℕ) (k r : List ℕ) → key_from_word key ≡ Ok k → record_from_word (61 ∷ value) ≡ Ok r → line_of_words (codes "put" ∷ codes "1" ∷ key ∷ (61 ∷ value) ∷ []) ≡ Ok (Some (command.Put (tx 1) k r))
 unfolding command_of value_of
 put_said key value k r key_is value_is = λ i. read_as Some (read_as (λ (a : TxId × List ℕ × List ℕ). command.Put a.0 a.1 a.2) (key_is i >>= λ (x : List ℕ). value_is i >>= λ (y : List ℕ). Ok (tx 1, x, y)))
 
@@ -131,8 +131,8 @@ put_in_line e can =
 -- a line that puts a record says so
 pub put_line_says : (e : List ℕ × List ℕ) → CanBePut e → line_of (put_text e) ≡ Ok (Some (command.Put (tx 1) e.0 e.1))
 put_line_says e can =
-    let key : key_at (escaped e.0) ≡ Ok e.0 = ap (λ (bytes : List ℕ). or_fault KeyTooLong (key_of bytes)) (read_back e.0 can.key_bytes) ∙ ap (or_fault KeyTooLong) can.key in
-    let value : record_at (61 ∷ escaped e.1) ≡ Ok e.1 = ap (λ (bytes : List ℕ). or_fault RecordTooLong (record_of bytes)) (read_back e.1 can.record_bytes) ∙ ap (or_fault RecordTooLong) can.value in
+    let key : key_from_word (escaped e.0) ≡ Ok e.0 = ap (λ (bytes : List ℕ). or_fault KeyTooLong (key_of bytes)) (read_back e.0 can.key_bytes) ∙ ap (or_fault KeyTooLong) can.key in
+    let value : record_from_word (61 ∷ escaped e.1) ≡ Ok e.1 = ap (λ (bytes : List ℕ). or_fault RecordTooLong (record_of bytes)) (read_back e.1 can.record_bytes) ∙ ap (or_fault RecordTooLong) can.value in
     line-of (put_text e) (put_in_line e can)
     ∙ ap line_of_words (put_words (escaped e.0) (escaped e.1) (plain e.0 can.key_bytes) (plain e.1 can.record_bytes) (key_word e.0 can.key))
     ∙ put_said (escaped e.0) (escaped e.1) e.0 e.1 key value
@@ -146,24 +146,24 @@ unfolding line_of command_of tx_command_of value_of
 commit_says = refl
 
 -- a line that says a command, and what follows it
-pub entries_line : (text rest : List ℕ) (c : Command) → list_all in_line text ≡ true → line_of text ≡ Ok (Some c) → entries_of (line text ++ rest) ≡ Ok c ∷ entries_of rest
+pub entries_line : (text rest : List ℕ) (c : Command) → list_all in_line text ≡ true → line_of text ≡ Ok (Some c) → commands_of (line text ++ rest) ≡ Ok c ∷ commands_of rest
 entries_line text rest c all says =
     ap entries_in (lines_line text rest all)
-    ∙ ap (λ (l : Read (Option Command)). keep l (entries_of rest)) says
+    ∙ ap (λ (l : Read (Option Command)). keep l (commands_of rest)) says
 
-last_line : entries_of (line (codes "commit 1")) ≡ Ok (command.Commit (tx 1)) ∷ []
+last_line : commands_of (line (codes "commit 1")) ≡ Ok (command.Commit (tx 1)) ∷ []
 last_line = ap (λ (l : Read (Option Command)). keep l []) commit_says
 
-puts_said : (records : List (List ℕ × List ℕ)) (rest : List ℕ) → All CanBePut records → entries_of (flat_map put_line records ++ rest) ≡ map put_of records ++ entries_of rest
+puts_said : (records : List (List ℕ × List ℕ)) (rest : List ℕ) → All CanBePut records → commands_of (flat_map put_line records ++ rest) ≡ map put_of records ++ commands_of rest
 puts_said [] rest can = refl
 puts_said (e ∷ es) rest can =
     let here = All-head CanBePut e es can in
-    ap entries_of (append_assoc (put_line e) (flat_map put_line es) rest)
+    ap commands_of (append_assoc (put_line e) (flat_map put_line es) rest)
     ∙ entries_line (put_text e) (flat_map put_line es ++ rest) (command.Put (tx 1) e.0 e.1) (put_in_line e here) (put_line_says e here)
     ∙ ap (λ (es : List (Read Command)). put_of e ∷ es) (puts_said es rest (All-tail CanBePut e es can))
 
 -- a dump says its commands
-pub dump_said : (records : List (List ℕ × List ℕ)) → All CanBePut records → entries_of (dump_text records) ≡ dump_commands records
+pub dump_said : (records : List (List ℕ × List ℕ)) → All CanBePut records → commands_of (dump_text records) ≡ dump_commands records
 dump_said records can =
     entries_line (codes "begin") (flat_map put_line records ++ line (codes "commit 1")) command.Begin refl begin_says
     ∙ ap (λ (es : List (Read Command)). Ok command.Begin ∷ es) (puts_said records (line (codes "commit 1")) can ∙ ap (λ (es : List (Read Command)). map put_of records ++ es) last_line)

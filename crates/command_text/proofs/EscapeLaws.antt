@@ -12,7 +12,7 @@ use Rattle.percent_encoding.specs.Percent.{is_escape, percent_decode, percent_en
 use Rattle.percent_encoding.proofs.PercentLemmas.{round_trip}
 use Rattle.rec_types.specs.declared.key.KeyFault.TheVariants.{Empty, TooLong}
 use Rattle.command_text.specs.declared.command.LineFault.TheVariants.{KeyTooLong}
-use Rattle.command_text.specs.Grammar.{is_word, or_fault, key_at}
+use Rattle.command_text.specs.Grammar.{is_word, or_fault, key_from_word}
 use Rattle.command_text.specs.Texts.{is_plain, escaped_byte, escaped}
 use Rattle.command_text.proofs.EscapeLemmas.{percent_encode-escaped, both}
 
@@ -71,7 +71,7 @@ some_byte b (high ∷ low ∷ rest) = at (is_escape b high low)
     at false = not_zero (length (percent_decode (high ∷ low ∷ rest)))
 
 -- a word is a key but where it stands for more than 16 bytes
-pub key_of_word : (word : List ℕ) → is_word word ≡ true → key_at word ≡ cond (nat_lt 16 (length (percent_decode word))) (Err KeyTooLong) (Ok (percent_decode word))
+pub key_of_word : (word : List ℕ) → is_word word ≡ true → key_from_word word ≡ cond (nat_lt 16 (length (percent_decode word))) (Err KeyTooLong) (Ok (percent_decode word))
 key_of_word [] is = absurd (cc)
 key_of_word (b ∷ bs) is = at (length (percent_decode (b ∷ bs)) == 0) (nat_lt 16 (length (percent_decode (b ∷ bs)))) (some_byte b bs)
   where

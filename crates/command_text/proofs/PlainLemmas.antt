@@ -6,7 +6,7 @@ use Rattle.percent_encoding.specs.Percent.{percent_decode}
 use Rattle.percent_encoding.proofs.PercentLemmas.{percent_decode-nil, percent_decode_not_percent}
 use Rattle.rec_types.specs.declared.transaction.TxId.{TxId}
 use Rattle.command_text.specs.declared.command.Command.TheVariants as commands
-use Rattle.command_text.specs.Grammar.{Read, read_as, ◌>>=◌, three_of, tx_at, key_at, record_at, tx_key_record_of}
+use Rattle.command_text.specs.Grammar.{Read, read_as, ◌>>=◌, three_of, tx_from_word, key_from_word, record_from_word, tx_key_record_of}
 use Rattle.command_text.specs.Words.{is_percent, key_from, record_from}
 
 neither : (a b : Bool) → (a || b) ≡ false → (a ≡ false) × (b ≡ false)
@@ -36,11 +36,11 @@ made t k (Ok bytes) = refl
 made t k (Err fault) = refl
 
 -- the record is what a put still has to read once its words, its transaction and its key are read
-pub put_by_record : (words : List (List ℕ)) (w : List ℕ × List ℕ × List ℕ) (t : TxId) (k : List ℕ) (r : Read (List ℕ)) → three_of words ≡ Ok w → tx_at w.0 ≡ Ok t → key_at w.1 ≡ Ok k → record_at w.2 ≡ r → read_as (λ (a : TxId × List ℕ × List ℕ). commands.Put a.0 a.1 a.2) (tx_key_record_of words) ≡ read_as (commands.Put t k) r
+pub put_by_record : (words : List (List ℕ)) (w : List ℕ × List ℕ × List ℕ) (t : TxId) (k : List ℕ) (r : Read (List ℕ)) → three_of words ≡ Ok w → tx_from_word w.0 ≡ Ok t → key_from_word w.1 ≡ Ok k → record_from_word w.2 ≡ r → read_as (λ (a : TxId × List ℕ × List ℕ). commands.Put a.0 a.1 a.2) (tx_key_record_of words) ≡ read_as (commands.Put t k) r
 put_by_record words w t k r is tx key rec =
     let make = read_as (λ (a : TxId × List ℕ × List ℕ). commands.Put a.0 a.1 a.2) in
-    let read = ap (λ (x : Read (List ℕ × List ℕ × List ℕ)). make (x >>= λ v. tx_at v.0 >>= λ u. key_at v.1 >>= λ q. record_at v.2 >>= λ bytes. Ok (u, q, bytes))) is
-    ∙ ap (λ (x : Read TxId). make (x >>= λ u. key_at w.1 >>= λ q. record_at w.2 >>= λ bytes. Ok (u, q, bytes))) tx
-    ∙ ap (λ (x : Read (List ℕ)). make (x >>= λ q. record_at w.2 >>= λ bytes. Ok (t, q, bytes))) key
+    let read = ap (λ (x : Read (List ℕ × List ℕ × List ℕ)). make (x >>= λ v. tx_from_word v.0 >>= λ u. key_from_word v.1 >>= λ q. record_from_word v.2 >>= λ bytes. Ok (u, q, bytes))) is
+    ∙ ap (λ (x : Read TxId). make (x >>= λ u. key_from_word w.1 >>= λ q. record_from_word w.2 >>= λ bytes. Ok (u, q, bytes))) tx
+    ∙ ap (λ (x : Read (List ℕ)). make (x >>= λ q. record_from_word w.2 >>= λ bytes. Ok (t, q, bytes))) key
     ∙ ap (λ (x : Read (List ℕ)). make (x >>= λ bytes. Ok (t, k, bytes))) rec in
     read ∙ made t k r

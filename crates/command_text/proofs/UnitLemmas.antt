@@ -19,8 +19,8 @@ use Rattle.command_text.specs.declared.command.Command.TheVariants as command
 use Rattle.command_text.specs.declared.command.LineFault.TheVariants.{BadNumber, KeyTooLong, RecordTooLong}
 use Rattle.command_text.specs.Dump.{CanBePut}
 use Rattle.command_text.specs.Examples.{tx}
-use Rattle.command_text.specs.Grammar.{Read, ◌>>=◌, read_as, or_fault, is_space, is_word, is_digit, value_of, number_of, tx_at, words_of, key_at, record_at, command_of, tx_command_of, line_of_words, line_of}
-use Rattle.command_text.specs.Script.{entries_of}
+use Rattle.command_text.specs.Grammar.{Read, ◌>>=◌, read_as, or_fault, is_space, is_word, is_digit, value_of, number_of, tx_from_word, words_of, key_from_word, record_from_word, command_of, tx_command_of, line_of_words, line_of}
+use Rattle.command_text.specs.Script.{commands_of}
 use Rattle.command_text.specs.Texts.{is_plain, escaped}
 use Rattle.command_text.specs.Units.{Write, write_text, write_line, commit_text, unit_lines, write_command, unit_commands, CanBeWritten, change_text, change_command}
 use Rattle.command_text.proofs.EscapeLaws.{read_back, plain}
@@ -57,7 +57,7 @@ number_read n small =
         let less : nat_lt (value_of (b ∷ bs)) (2 ^ 32) ≡ true = grind (arith, nat_tests, value, small) in
         (λ i. cond (digits i && less i) (Some (value i)) None)
 
-tx_read : (n : ℕ) → n < 2 ^ 32 → tx_at (decimal n) ≡ Ok (tx n)
+tx_read : (n : ℕ) → n < 2 ^ 32 → tx_from_word (decimal n) ≡ Ok (tx n)
 tx_read n small = ap (λ (o : Option ℕ). read_as (λ k. record { 0 = k }) (ok_or o BadNumber)) (number_read n small)
 
 digit_plain : (b : ℕ) → is_digit b ≡ true → is_plain b ≡ true
@@ -123,22 +123,22 @@ commit_words num num_plain word =
     ∙ ap (λ (t : Bool). codes "commit" ∷ cond t (num ∷ []) []) word
 
 -- what those words say
-put_said : (n : ℕ) (num key value k r : List ℕ) → tx_at num ≡ Ok (tx n) → key_at key ≡ Ok k → record_at (61 ∷ value) ≡ Ok r → line_of_words (codes "put" ∷ num ∷ key ∷ (61 ∷ value) ∷ []) ≡ Ok (Some (command.Put (tx n) k r))
+put_said : (n : ℕ) (num key value k r : List ℕ) → tx_from_word num ≡ Ok (tx n) → key_from_word key ≡ Ok k → record_from_word (61 ∷ value) ≡ Ok r → line_of_words (codes "put" ∷ num ∷ key ∷ (61 ∷ value) ∷ []) ≡ Ok (Some (command.Put (tx n) k r))
 unfolding command_of
 put_said n num key value k r tx_is key_is value_is = λ i. read_as Some (read_as (λ (a : TxId × List ℕ × List ℕ). command.Put a.0 a.1 a.2) (tx_is i >>= λ (t : TxId). key_is i >>= λ (x : List ℕ). value_is i >>= λ (y : List ℕ). Ok (t, x, y)))
 
-del_said : (n : ℕ) (num key k : List ℕ) → tx_at num ≡ Ok (tx n) → key_at key ≡ Ok k → line_of_words (codes "del" ∷ num ∷ key ∷ []) ≡ Ok (Some (command.Del (tx n) k))
+del_said : (n : ℕ) (num key k : List ℕ) → tx_from_word num ≡ Ok (tx n) → key_from_word key ≡ Ok k → line_of_words (codes "del" ∷ num ∷ key ∷ []) ≡ Ok (Some (command.Del (tx n) k))
 unfolding command_of
 del_said n num key k tx_is key_is = λ i. read_as Some (read_as (λ (a : TxId × List ℕ). command.Del a.0 a.1) (tx_is i >>= λ (t : TxId). key_is i >>= λ (x : List ℕ). Ok (t, x)))
 
-commit_said : (n : ℕ) (num : List ℕ) → tx_at num ≡ Ok (tx n) → line_of_words (codes "commit" ∷ num ∷ []) ≡ Ok (Some (command.Commit (tx n)))
+commit_said : (n : ℕ) (num : List ℕ) → tx_from_word num ≡ Ok (tx n) → line_of_words (codes "commit" ∷ num ∷ []) ≡ Ok (Some (command.Commit (tx n)))
 unfolding command_of tx_command_of
 commit_said n num tx_is = λ i. read_as Some (read_as command.Commit (tx_is i))
 
-key_reads : (key value : List ℕ) → CanBePut (key, value) → key_at (escaped key) ≡ Ok key
+key_reads : (key value : List ℕ) → CanBePut (key, value) → key_from_word (escaped key) ≡ Ok key
 key_reads key value can = ap (λ (bytes : List ℕ). or_fault KeyTooLong (key_of bytes)) (read_back key can.key_bytes) ∙ ap (or_fault KeyTooLong) can.key
 
-value_reads : (key value : List ℕ) → CanBePut (key, value) → record_at (61 ∷ escaped value) ≡ Ok value
+value_reads : (key value : List ℕ) → CanBePut (key, value) → record_from_word (61 ∷ escaped value) ≡ Ok value
 value_reads key value can = ap (λ (bytes : List ℕ). or_fault RecordTooLong (record_of bytes)) (read_back value can.record_bytes) ∙ ap (or_fault RecordTooLong) can.value
 
 -- a line of plain bytes and spaces is one of a unit
@@ -183,14 +183,14 @@ module _ (n : ℕ) (small : n < 2 ^ 32) where
       ∙ commit_said n (decimal n) (tx_read n small)
 
   -- and so do all of them
-  writes_said : (writes : List Write) → All CanBeWritten writes → entries_of (unit_text (map (write_text n) writes ++ commit_text n ∷ [])) ≡ map (λ w. Ok (write_command n w)) writes ++ Ok (command.Commit (tx n)) ∷ []
+  writes_said : (writes : List Write) → All CanBeWritten writes → commands_of (unit_text (map (write_text n) writes ++ commit_text n ∷ [])) ≡ map (λ w. Ok (write_command n w)) writes ++ Ok (command.Commit (tx n)) ∷ []
   writes_said [] can = entries_line (commit_text n) [] (command.Commit (tx n)) commit_in_line commit_says
   writes_said (w ∷ ws) can =
       let here = All-head CanBeWritten w ws can in
       entries_line (write_text n w) (unit_text (map (write_text n) ws ++ commit_text n ∷ [])) (write_command n w) (change_in_line w.0 w.1 here) (change_says w.0 w.1 here)
       ∙ ap (λ (es : List (Read Command)). Ok (write_command n w) ∷ es) (writes_said ws (All-tail CanBeWritten w ws can))
 
-  pub unit_said : (writes : List Write) → All CanBeWritten writes → entries_of (unit_text (unit_lines n writes)) ≡ unit_commands n writes
+  pub unit_said : (writes : List Write) → All CanBeWritten writes → commands_of (unit_text (unit_lines n writes)) ≡ unit_commands n writes
   unit_said writes can =
       entries_line (codes "begin") (unit_text (map (write_text n) writes ++ commit_text n ∷ [])) command.Begin refl begin_says
       ∙ ap (λ (es : List (Read Command)). Ok command.Begin ∷ es) (writes_said writes can)

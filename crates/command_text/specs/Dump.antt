@@ -27,12 +27,12 @@ put_of e = Ok (command.Put (tx 1) e.0 e.1)
 abbrev pub dump_commands : List (List ℕ × List ℕ) → List (Read Command)
 dump_commands records = Ok command.Begin ∷ map put_of records ++ Ok (command.Commit (tx 1)) ∷ []
 
-abbrev pub AreBytes : List ℕ → Type 0
-AreBytes bytes = All (λ b. b < 256) bytes
+abbrev pub EachIsByte : List ℕ → Type 0
+EachIsByte bytes = All (λ b. b < 256) bytes
 
 -- a key and a record of bytes, each of a length that it may have
 pub record CanBePut (e : List ℕ × List ℕ) : Type 0 where
-  pub key_bytes : AreBytes e.0
+  pub key_bytes : EachIsByte e.0
   pub key : key_of e.0 ≡ Ok e.0
-  pub record_bytes : AreBytes e.1
+  pub record_bytes : EachIsByte e.1
   pub value : record_of e.1 ≡ Ok e.1

@@ -62,17 +62,17 @@ abbrev pub number_at : List ℕ → Read ℕ
 number_at word = ok_or (number_of word) BadNumber
 
 -- a transaction's number
-abbrev pub tx_at : List ℕ → Read TxId
-tx_at word = read_as (λ n. record { 0 = n }) (number_at word)
+abbrev pub tx_from_word : List ℕ → Read TxId
+tx_from_word word = read_as (λ n. record { 0 = n }) (number_at word)
 
 -- a key: its escapes are read first. A word has a byte, and so has its key.
-abbrev pub key_at : List ℕ → Read (List ℕ)
-key_at word = or_fault KeyTooLong (key_of (percent_decode word))
+abbrev pub key_from_word : List ℕ → Read (List ℕ)
+key_from_word word = or_fault KeyTooLong (key_of (percent_decode word))
 
 -- a record: what follows the `=` with which its word begins
-abbrev pub record_at : List ℕ → Read (List ℕ)
-record_at [] = Err NoRecordMark
-record_at (b ∷ bs) =
+abbrev pub record_from_word : List ℕ → Read (List ℕ)
+record_from_word [] = Err NoRecordMark
+record_from_word (b ∷ bs) =
     if b == 61 then or_fault RecordTooLong (record_of (percent_decode bs)) else Err NoRecordMark
 
 -- so many words, and no more
@@ -94,17 +94,17 @@ alone [] c = Ok c
 alone (word ∷ words) c = Err WordCount
 
 abbrev pub tx_of_word : List (List ℕ) → Read TxId
-tx_of_word words = one_of words >>= tx_at
+tx_of_word words = one_of words >>= tx_from_word
 
 abbrev pub tx_number_of : List (List ℕ) → Read (TxId × ℕ)
-tx_number_of words = two_of words >>= λ w. tx_at w.0 >>= λ t. number_at w.1 >>= λ n. Ok (t, n)
+tx_number_of words = two_of words >>= λ w. tx_from_word w.0 >>= λ t. number_at w.1 >>= λ n. Ok (t, n)
 
 abbrev pub tx_key_of : List (List ℕ) → Read (TxId × List ℕ)
-tx_key_of words = two_of words >>= λ w. tx_at w.0 >>= λ t. key_at w.1 >>= λ k. Ok (t, k)
+tx_key_of words = two_of words >>= λ w. tx_from_word w.0 >>= λ t. key_from_word w.1 >>= λ k. Ok (t, k)
 
 abbrev pub tx_key_record_of : List (List ℕ) → Read (TxId × List ℕ × List ℕ)
 tx_key_record_of words =
-    three_of words >>= λ w. tx_at w.0 >>= λ t. key_at w.1 >>= λ k. record_at w.2 >>= λ r.
+    three_of words >>= λ w. tx_from_word w.0 >>= λ t. key_from_word w.1 >>= λ k. record_from_word w.2 >>= λ r.
     Ok (t, k, r)
 
 -- whether the bytes are the text

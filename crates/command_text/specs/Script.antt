@@ -33,8 +33,8 @@ abbrev pub entries_in : List (List ℕ) → List (Read Command)
 entries_in lines = entries_by line_of lines
 
 -- the commands of a script in order, with the fault of each line that can't be read in its place
-abbrev pub entries_of : List ℕ → List (Read Command)
-entries_of script = entries_in (lines_of script)
+abbrev pub commands_of : List ℕ → List (Read Command)
+commands_of script = entries_in (lines_of script)
 
 abbrev pub HasNoLf : List ℕ → Type 0
 HasNoLf text = All (λ b. is_lf b ≡ false) text

@@ -2,7 +2,7 @@ ghost use Rattle.std.specs.Prelude.{◌≡◌, ◌-◌, ◌≤◌, true, false, 
 ghost use Rattle.std.specs.List.{list_any};
 ghost use Rattle.std.specs.Option.{IsSome};
 ghost use Rattle.percent_encoding.specs.Percent.{percent_decode};
-ghost use Rattle.command_text.specs.Grammar.{is_digit, number_of, number_at, tx_at, key_at, record_at, read_as};
+ghost use Rattle.command_text.specs.Grammar.{is_digit, number_of, number_at, tx_from_word, key_from_word, record_from_word, read_as};
 ghost use Rattle.command_text.specs.Words.{is_percent, key_from, record_from, record_after};
 
 use crate::LineFault;
@@ -50,7 +50,7 @@ pub fn number_at(word: &[u8]) -> Result<u32, LineFault>
 
 /// The transaction whose number a word stands for. Fault: BadNumber.
 pub fn tx_at(word: &[u8]) -> Result<TxId, LineFault>
-    ensures { result ≡ tx_at word.now }
+    ensures { result ≡ tx_from_word word.now }
 {
     Ok(TxId(number_at(word)?))
 }
@@ -94,7 +94,7 @@ fn record_of_bytes(bytes: &[u8]) -> Result<Record, LineFault>
 
 /// The key that a word stands for. Fault: KeyTooLong.
 pub fn key_at(word: &[u8]) -> Result<Key, LineFault>
-    ensures { result ≡ key_at word.now }
+    ensures { result ≡ key_from_word word.now }
 {
     // A word without `%` stands for itself, and is copied once.
     if !has_percent(word) {
@@ -114,7 +114,7 @@ pub fn escaped_record(escaped: &[u8]) -> Result<Record, LineFault>
 
 /// What comes after the mark with which the word of a record begins. Fault: NoRecordMark.
 pub fn after_mark(word: &[u8]) -> Result<&[u8], LineFault>
-    ensures { record_at word.now ≡ record_after (read_as (λ escaped. escaped.now) result) }
+    ensures { record_from_word word.now ≡ record_after (read_as (λ escaped. escaped.now) result) }
 {
     word.strip_prefix(b"=").ok_or(LineFault::NoRecordMark)
 }

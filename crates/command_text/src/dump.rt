@@ -2,8 +2,8 @@ ghost use Rattle.std.specs.Prelude.{◌≡◌, ◌<◌, ◌≤◌, ◌++◌, Lis
 ghost use Rattle.std.specs.List.{All, flat_map};
 ghost use Rattle.std.specs.String.{string_bytes};
 ghost use Rattle.rec_types.specs.Widths.{widest_record};
-ghost use Rattle.command_text.specs.Dump.{dump_text, dump_commands, put_line, AreBytes, CanBePut};
-ghost use Rattle.command_text.specs.Script.{entries_of};
+ghost use Rattle.command_text.specs.Dump.{dump_text, dump_commands, put_line, EachIsByte, CanBePut};
+ghost use Rattle.command_text.specs.Script.{commands_of};
 ghost use Rattle.command_text.specs.Texts.{escaped, line};
 
 use crate::reply::push_escaped;
@@ -13,7 +13,7 @@ use std::alloc::{AllocError, Global};
 /// Appends bytes, escaped, which are bytes.
 pub(crate) fn push_bytes(text: &mut String, bytes: &[u8]) -> Result<(), AllocError>
     ensures text { OnOk result (string_bytes text.new ≡ string_bytes text.old ++ escaped bytes.now) }
-    ensures bytes { AreBytes bytes.now }
+    ensures bytes { EachIsByte bytes.now }
 {
     push_escaped(text, bytes)
 }
@@ -74,7 +74,7 @@ fn dump_text(alloc: Global, records: &[(Key, Record)]) -> Result<String, AllocEr
 pub fn write_dump(alloc: Global, records: &[(Key, Record)]) -> Result<Vec<u8>, Memory>
     ensures text { IfOk result (λ text. text.items ≡ dump_text records.now) }
     ensures puts { OnOk result (All CanBePut records.now) }
-    ensures said { IfOk result (λ text. entries_of text.items ≡ dump_commands records.now) }
+    ensures said { IfOk result (λ text. commands_of text.items ≡ dump_commands records.now) }
 {
     let text = dump_text(alloc, records).map_err(|_| Memory)?;
     Ok(text.into_bytes())

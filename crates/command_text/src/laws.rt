@@ -8,10 +8,10 @@ ghost use Rattle.record_file.specs.declared.fault.Cause.TheVariants as causes;
 ghost use Rattle.record_file.specs.declared.fault.PutFault.TheVariants as put_faults;
 ghost use Rattle.record_file.specs.declared.fault.RollbackToFault.TheVariants as rollback_faults;
 ghost use Rattle.command_text.specs.Dump.{dump_text, dump_commands, CanBePut};
-ghost use Rattle.command_text.specs.Examples.{tx, owned, free};
+ghost use Rattle.command_text.specs.Examples.{tx, x_owned_by_7, free};
 ghost use Rattle.command_text.specs.Refusals.{begins_refused, is_refusal};
-ghost use Rattle.command_text.specs.Grammar.{is_word, words_of, key_at, line_of};
-ghost use Rattle.command_text.specs.Script.{bounded_entries_in, bounded_line_of, ended_lines, entries_of, lines_of, longest_line};
+ghost use Rattle.command_text.specs.Grammar.{is_word, words_of, key_from_word, line_of};
+ghost use Rattle.command_text.specs.Script.{bounded_entries_in, bounded_line_of, ended_lines, commands_of, lines_of, longest_line};
 ghost use Rattle.command_text.specs.Texts.{escaped, is_plain, text_of, texts_of};
 ghost use Rattle.command_text.specs.Units.{unit_lines};
 ghost use Rattle.command_text.specs.declared.command.Command.TheVariants as command;
@@ -27,7 +27,7 @@ pub fn lines_by_example()
     ensures unended { lines_of (codes "ab" ++ 10 ∷ codes "c") ≡ codes "ab" ∷ codes "c" ∷ [] }
     ensures blank { lines_of (10 ∷ 10 ∷ codes "c") ≡ [] ∷ [] ∷ codes "c" ∷ [] }
     ensures words { words_of (codes "  save   1 ") ≡ codes "save" ∷ codes "1" ∷ [] }
-    ensures entries { entries_of
+    ensures entries { commands_of
         (codes "log" ++ 10 ∷ codes "# log" ++ 10 ∷ 10 ∷ codes "lag" ++ 10 ∷ codes "list")
         ≡ Ok command.Log ∷ Err faults.UnknownCommand ∷ Ok command.List ∷ [] }
 {}
@@ -65,7 +65,7 @@ pub fn commands_by_example()
 
 /// A word of a line has a byte, and so its key has one: it is too long, or a key.
 pub fn keys_of_words()
-    ensures { (word : List ℕ) → is_word word ≡ true → key_at word
+    ensures { (word : List ℕ) → is_word word ≡ true → key_from_word word
         ≡ (if nat_lt key_width (length (percent_decode word)) then Err faults.KeyTooLong
         else Ok (percent_decode word)) }
 {}
@@ -88,7 +88,7 @@ pub fn replies_by_example()
         ≡ codes "no Held 3" ++ 10 ∷ [] }
     ensures stopped { text_of (reply.Back (Err (rollback_faults.Stopped 1 20 (causes.Damaged 5))))
         ≡ codes "stopped 1 20 Damaged 5" ++ 10 ∷ [] }
-    ensures list { text_of (reply.List (Ok (free ∷ owned ∷ [])))
+    ensures list { text_of (reply.List (Ok (free ∷ x_owned_by_7 ∷ [])))
         ≡ codes "- %00 =" ++ 10 ∷ codes "- a =x @7" ++ 10 ∷ codes "ok 2" ++ 10 ∷ [] }
     ensures run { texts_of (reply.Log 4 8 ∷ reply.Bad faults.WordCount ∷ [])
         ≡ codes "ok 4 8" ++ 10 ∷ codes "bad WordCount" ++ 10 ∷ [] }
@@ -108,7 +108,7 @@ pub fn refusals_by_text()
 /// The lines of a dump, whatever bytes its keys and records have: a transaction begins, puts each record, and commits.
 pub fn dumps()
     ensures said { (records : List (List ℕ × List ℕ)) → All CanBePut records
-        → entries_of (dump_text records) ≡ dump_commands records }
+        → commands_of (dump_text records) ≡ dump_commands records }
     ensures empty { dump_text [] ≡ codes "begin" ++ 10 ∷ codes "commit 1" ++ 10 ∷ [] }
     ensures one { dump_text ((10 ∷ 37 ∷ [], codes "a =") ∷ []) ≡ codes "begin" ++ 10
         ∷ codes "put 1 %0A%25 =a%20=" ++ 10 ∷ codes "commit 1" ++ 10 ∷ [] }

@@ -2,7 +2,7 @@ ghost use Rattle.std.specs.Prelude.{◌≡◌, ◌++◌, IfOk, OnOk};
 ghost use Rattle.std.specs.List.{All, flat_map};
 ghost use Rattle.std.specs.String.{string_bytes};
 ghost use Rattle.commit_paper.specs.Text.{IsUnit, unit_text};
-ghost use Rattle.command_text.specs.Script.{entries_of};
+ghost use Rattle.command_text.specs.Script.{commands_of};
 ghost use Rattle.command_text.specs.Units.{write_line, unit_lines, unit_commands, CanBeWritten};
 
 use crate::dump::push_bytes;
@@ -76,7 +76,7 @@ pub fn write_unit(
 ) -> Result<Vec<u8>, Memory>
     ensures text { IfOk result (λ text. text.items ≡ unit_text (unit_lines tx.0 writes.now)) }
     ensures unit { OnOk result (IsUnit (unit_lines tx.0 writes.now)) }
-    ensures said { IfOk result (λ text. entries_of text.items ≡ unit_commands tx.0 writes.now) }
+    ensures said { IfOk result (λ text. commands_of text.items ≡ unit_commands tx.0 writes.now) }
 {
     let TxId(number) = tx;
     let text = text_of_unit(alloc, number, writes).map_err(|_| Memory)?;

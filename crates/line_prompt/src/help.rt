@@ -2,7 +2,7 @@ use std::io;
 use std::io::Write;
 
 // The forms of the lines, and what they do.
-const FORMS: [(&str, &str, &str); 15] = [
+const FORMS: [(&str, &str, &str); 16] = [
     (
         "begin",
         "begin",
@@ -52,6 +52,11 @@ const FORMS: [(&str, &str, &str); 15] = [
         "log",
         "log",
         "answers how many records the log has, and how many it may need; then as show",
+    ),
+    (
+        "flush",
+        "flush",
+        "writes the file and goes on from 1, where no transaction is open; with --durable alone",
     ),
     (
         "show",

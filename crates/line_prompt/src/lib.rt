@@ -1,6 +1,7 @@
 //! What a person at a terminal sees beside the replies of a shell: a prompt, help, and the form of a line that has none.
 #![tactic(auto)]
 
+mod by_line;
 mod chain;
 mod ending;
 mod heard;
@@ -9,6 +10,7 @@ mod picture;
 mod prompted;
 mod watch;
 
+pub use by_line::ByLine;
 pub use ending::tell_end;
 pub use heard::Heard;
 pub use prompted::Prompted;

@@ -2,7 +2,7 @@ ghost use Rattle.std.specs.Prelude.{◌≡◌, ◌≤◌, length, IfOk, IfSome};
 
 use crate::help::tell_forms;
 use crate::picture::draw_chains;
-use crate::watch::Watch;
+use crate::watch::{FLUSH, Watch};
 use command_text::{LineFault, read_bounded_line};
 use std::cell::RefCell;
 use std::io;
@@ -88,6 +88,12 @@ fn answers<E: Write>(line: &[u8], watch: &Watch, err: &mut E) -> io::Result<bool
     if first == "show" {
         draw_chains(watch, err)?;
         return Ok(true);
+    }
+    if without_end(line) == FLUSH {
+        if !watch.open().is_empty() {
+            writeln!(err, "a flush is only taken while no transaction is open")?;
+        }
+        return Ok(false);
     }
     match read_bounded_line(without_end(line)) {
         Err(LineFault::WordCount) => tell_forms(err, first)?,

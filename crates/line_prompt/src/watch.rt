@@ -4,6 +4,9 @@ use rec_types::{Key, Memory, TxId};
 use std::alloc::Global;
 use std::mem;
 
+/// The line by which a session asks that its file be written, and begins again.
+pub const FLUSH: &[u8] = b"flush";
+
 // How much of a reply is kept: its first words.
 const KEPT: usize = 64;
 
@@ -21,6 +24,7 @@ pub struct Watch {
     begins: bool,
     ended: bool,
     said: Option<Command>,
+    flush: bool,
     // Whether the last line that was heard has no end yet.
     part: bool,
     reply: Vec<u8>,
@@ -60,6 +64,7 @@ impl Watch {
             begins: true,
             ended: false,
             said: None,
+            flush: false,
             part: false,
             reply: Vec::new(alloc),
         }
@@ -114,6 +119,7 @@ impl Watch {
         self.begins = false;
         self.ended = line.is_empty();
         self.said = read_bounded_line(text).unwrap_or(None);
+        self.flush = text == FLUSH;
         self.reply.clear();
     }
 
@@ -128,6 +134,10 @@ impl Watch {
 
     /// Takes up what the line and its reply tell. Whether it asked for the log, whose length is known.
     pub fn take_up(&mut self) -> bool {
+        if self.flush && matches!(told_by(&self.reply), Told::Accepted(_)) {
+            self.begin_again();
+        }
+        self.flush = false;
         let Some(said) = self.said else {
             return false;
         };
@@ -145,6 +155,14 @@ impl Watch {
             return false;
         };
         matches!(said, Command::Log) && self.known && self.records.len() == len as usize
+    }
+
+    // A flush was taken: no transaction is open, the log is empty, and numbers begin at 1.
+    fn begin_again(&mut self) {
+        self.records.clear();
+        self.open.clear();
+        self.begun = 0;
+        self.known = true;
     }
 
     // What an accepted command did.

@@ -5,7 +5,7 @@ use Rattle.std.proofs.lemmas.List.{append_assoc, length-replicate}
 use Rattle.std.proofs.lemmas.Option.{slice_get-get_or, slice_get_past}
 use Rattle.rec_types.specs.Table.{counted}
 use Rattle.page_store.specs.Blank.{blank, blanks}
-use Rattle.page_store.specs.Journal.{Journal, NotesFront, carry, carried, noted, write_of, writes_below}
+use Rattle.page_store.specs.Journal.{Journal, NotesFront, carry, carried, noted_steps, write_of, writes_below}
 use Rattle.page_store.specs.StoreFaults.{is_failed}
 use Rattle.page_store.specs.WritingBack.{AreStored}
 use Rattle.page_store.specs.declared.step.Step.{Step}
@@ -18,7 +18,7 @@ use Rattle.page_store.proofs.WriteBackLemmas.{pages_put, pages_skipped}
 use Rattle.page_copy.specs.declared.copying.CopyFault.{CopyFault}
 use Rattle.page_copy.specs.declared.copying.CopyFault.TheVariants.{Source, Length, Copy}
 use Rattle.page_copy.specs.Copying.{IsNoneOrCopy, MakesCalls, behind_first, copying, first_of, is_copy, last_calls}
-use Rattle.page_copy.specs.Examples.{two_pages}
+use Rattle.page_copy.specs.Examples.{pages_4_and_5}
 
 -- a call of the copy that failed
 module _ {A B : Type 0} (answer : Result A StoreFault) (result : Result B CopyFault) where
@@ -128,7 +128,7 @@ front_of (p ∷ rest) (suc k) some =
     (later_front [] (behind_first (p ∷ rest)) (length (p ∷ rest)) blank p (suc k) some refl))
 
 -- page 0 that is written first is neither
-pub never_first : IsNoneOrCopy two_pages ((4 ∷ []) ∷ blank ∷ []) → ⊥
+pub never_first : IsNoneOrCopy pages_4_and_5 ((4 ∷ []) ∷ blank ∷ []) → ⊥
 never_first (inl none) = let e : ◌≡◌ {A = ℕ} 2 0 = ap (λ (ps : List (List ℕ)). length ps) none in absurd (omega (arith, e))
 never_first (inr (inl zeros)) = let e : ◌≡◌ {A = ℕ} 1 (length blank) = ap (λ (o : Option (List ℕ)). length (unwrap_or o [])) zeros in absurd (omega (arith, e, wide))
 never_first (inr (inr whole)) = let e : ◌≡◌ {A = ℕ} (length blank) 1 = ap (λ (ps : List (List ℕ)). length (unwrap_or (slice_get ps 1) [])) whole in absurd (omega (arith, e, wide))
@@ -137,12 +137,12 @@ never_first (inr (inr whole)) = let e : ◌≡◌ {A = ℕ} (length blank) 1 = a
 pub stopped : (calls : List Step) (old new : Option Journal) (fault : CopyFault) (result : Result (Unit {0}) CopyFault) → result ≡ Err fault → NotesFront calls old new → MakesCalls calls old result new
 stopped calls old new fault result told front = subst (λ (r : Result (Unit {0}) CopyFault). MakesCalls calls old r new) (sym told) front
 
-noted_again : (o : Option Journal) (some more : List Step) → noted (noted o some) more ≡ noted o (some ++ more)
+noted_again : (o : Option Journal) (some more : List Step) → noted_steps (noted_steps o some) more ≡ noted_steps o (some ++ more)
 noted_again None some more = refl
 noted_again (Some j) some more = ap (λ (steps : List Step). Some (record { opened = j.opened; steps = steps })) (append_assoc j.steps some more)
 
-then_noted : (old mid new : Option Journal) (some more : List Step) → mid ≡ noted old some → new ≡ noted mid more → new ≡ noted old (some ++ more)
-then_noted old mid new some more is later = later ∙ ap (λ o. noted o more) is ∙ noted_again old some more
+then_noted : (old mid new : Option Journal) (some more : List Step) → mid ≡ noted_steps old some → new ≡ noted_steps mid more → new ≡ noted_steps old (some ++ more)
+then_noted old mid new some more is later = later ∙ ap (λ o. noted_steps o more) is ∙ noted_again old some more
 
 -- the calls of a copying, one part after another
 module _ (pages : List (List ℕ)) (old longer put kept new : Option Journal) where
@@ -152,25 +152,25 @@ module _ (pages : List (List ℕ)) (old longer put kept new : Option Journal) wh
   abbrev longer_calls : List Step
   longer_calls = SetPages (length pages) ∷ []
 
-  pub no_writes : longer ≡ noted old longer_calls → NotesFront writes longer new → NotesFront (copying pages) old new
+  pub no_writes : longer ≡ noted_steps old longer_calls → NotesFront writes longer new → NotesFront (copying pages) old new
   no_writes first second = then_front old longer new longer_calls writes (Sync ∷ last_calls pages) first second
 
-  module _ (first : longer ≡ noted old longer_calls) (second : put ≡ noted longer writes) where
-    put_is : put ≡ noted old (longer_calls ++ writes)
+  module _ (first : longer ≡ noted_steps old longer_calls) (second : put ≡ noted_steps longer writes) where
+    put_is : put ≡ noted_steps old (longer_calls ++ writes)
     put_is = then_noted old longer put longer_calls writes first second
 
     pub no_sync : new ≡ put → NotesFront (copying pages) old new
     no_sync same = (longer_calls ++ writes, Sync ∷ last_calls pages, refl, same ∙ put_is)
 
-    module _ (third : kept ≡ noted put (Sync ∷ [])) where
-      kept_is : kept ≡ noted old ((longer_calls ++ writes) ++ Sync ∷ [])
+    module _ (third : kept ≡ noted_steps put (Sync ∷ [])) where
+      kept_is : kept ≡ noted_steps old ((longer_calls ++ writes) ++ Sync ∷ [])
       kept_is = then_noted old put kept (longer_calls ++ writes) (Sync ∷ []) put_is third
 
       in_parts : ((longer_calls ++ writes) ++ Sync ∷ []) ++ last_calls pages ≡ copying pages
       in_parts = append_assoc (longer_calls ++ writes) (Sync ∷ []) (last_calls pages)
 
       pub all_calls : (r : Result (Unit {0}) CopyFault) → MakesCalls (last_calls pages) kept r new → MakesCalls (copying pages) old r new
-      all_calls (Ok done) last = then_noted old kept new ((longer_calls ++ writes) ++ Sync ∷ []) (last_calls pages) kept_is last ∙ ap (noted old) in_parts
+      all_calls (Ok done) last = then_noted old kept new ((longer_calls ++ writes) ++ Sync ∷ []) (last_calls pages) kept_is last ∙ ap (noted_steps old) in_parts
       all_calls (Err fault) last =
           let front = then_front old kept new ((longer_calls ++ writes) ++ Sync ∷ []) (last_calls pages) [] kept_is last in
           (front.0, front.1, sym in_parts ∙ front.2, front.3)
@@ -195,8 +195,8 @@ alike_faults A B Length = refl
 alike_faults A B (Copy Failed) = refl
 alike_faults A B (Copy Memory) = refl
 
-pub longer_is : (old longer : Option Journal) (count long : ℕ) → count ≡ long → longer ≡ noted old (SetPages count ∷ []) → longer ≡ noted old (SetPages long ∷ [])
-longer_is old longer count long is made = made ∙ ap (λ k. noted old (SetPages k ∷ [])) is
+pub longer_is : (old longer : Option Journal) (count long : ℕ) → count ≡ long → longer ≡ noted_steps old (SetPages count ∷ []) → longer ≡ noted_steps old (SetPages long ∷ [])
+longer_is old longer count long is made = made ∙ ap (λ k. noted_steps old (SetPages k ∷ [])) is
 
 pub made_long : (old stored : List (List ℕ)) (count : ℕ) → length old ≡ 0 → stored ≡ old ++ blanks (count - length old) → length stored ≡ count
 made_long old stored count none is =
@@ -215,8 +215,8 @@ module _ (pages read_pages : List (List ℕ)) where
   pub same_front : (old new : Option Journal) → read_pages ≡ pages → NotesFront (writes_below (behind_first read_pages) (length read_pages)) old new → NotesFront (writes_below (behind_first pages) (length pages)) old new
   same_front old new same front = subst (λ (ps : List (List ℕ)). NotesFront (writes_below (behind_first ps) (length ps)) old new) same front
 
-  pub same_writes : (old new : Option Journal) → read_pages ≡ pages → new ≡ noted old (writes_below (behind_first read_pages) (length read_pages)) → new ≡ noted old (writes_below (behind_first pages) (length pages))
-  same_writes old new same made = made ∙ ap (λ (ps : List (List ℕ)). noted old (writes_below (behind_first ps) (length ps))) same
+  pub same_writes : (old new : Option Journal) → read_pages ≡ pages → new ≡ noted_steps old (writes_below (behind_first read_pages) (length read_pages)) → new ≡ noted_steps old (writes_below (behind_first pages) (length pages))
+  same_writes old new same made = made ∙ ap (λ (ps : List (List ℕ)). noted_steps old (writes_below (behind_first ps) (length ps))) same
 
   pub same_last : (old new : Option Journal) (r : Result (Unit {0}) CopyFault) → read_pages ≡ pages → MakesCalls (last_calls read_pages) old r new → MakesCalls (last_calls pages) old r new
   same_last old new r same made = subst (λ (ps : List (List ℕ)). MakesCalls (last_calls ps) old r new) same made

@@ -2,7 +2,7 @@
 use Rattle.std.specs.Prelude.{◌≡◌, ◌≢◌, ◌⊎◌, ℕ, ◌≤◌, ◌^◌, zero, suc, Bool, true, false, List, [], ◌∷◌, ◌++◌, length, Option, Some, None, Result, Ok, Err, slice_get, slice_index_or}
 use Rattle.page_store.specs.Blank.{blank}
 use Rattle.page_store.specs.PageMap.{PageMap}
-use Rattle.page_store.specs.Journal.{Journal, noted, NotesFront, writes_below}
+use Rattle.page_store.specs.Journal.{Journal, noted_steps, NotesFront, writes_below}
 use Rattle.page_store.specs.declared.store_state.StoreState.{Ghosts}
 use Rattle.page_store.specs.declared.step.Step.{Step}
 use Rattle.page_store.specs.declared.step.Step.TheVariants.{SetPages, Write, Sync}
@@ -29,7 +29,7 @@ copying pages = SetPages (length pages) ∷ (writes_below (behind_first pages) (
 
 -- all of these calls were made, or up to the first that failed
 abbrev pub MakesCalls : List Step → Option Journal → Result (Unit {0}) CopyFault → Option Journal → Type 0
-MakesCalls calls old (Ok done) new = new ≡ noted old calls
+MakesCalls calls old (Ok done) new = new ≡ noted_steps old calls
 MakesCalls calls old (Err fault) new = NotesFront calls old new
 
 -- pages that are no whole file: there is none, or more than their numbers count, or a tail

@@ -3,8 +3,8 @@ use Rattle.std.specs.Prelude.{ℕ, List, [], ◌∷◌}
 use Rattle.page_store.specs.declared.step.Step.{Step}
 use Rattle.page_store.specs.declared.step.Step.TheVariants.{SetPages, Write, Sync}
 
-abbrev pub two_pages : List (List ℕ)
-two_pages = (4 ∷ []) ∷ (5 ∷ []) ∷ []
+abbrev pub pages_4_and_5 : List (List ℕ)
+pages_4_and_5 = (4 ∷ []) ∷ (5 ∷ []) ∷ []
 
 abbrev pub two_copied : List Step
 two_copied = SetPages 2 ∷ Write 1 (5 ∷ []) ∷ Sync ∷ Write 0 (4 ∷ []) ∷ Sync ∷ []

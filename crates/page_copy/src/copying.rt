@@ -1,7 +1,7 @@
 ghost use Rattle.std.specs.Prelude.{◌≡◌, ◌<◌, ◌≤◌, ◌∷◌, [], length, false, IsTrue, IfOk, IfErr, OnOk, OnErr, Some, slice_get, slice_set};
 ghost use Rattle.rec_types.specs.Table.{counted};
 ghost use Rattle.page_copy.specs.Copying.{IsCopyFault, KeepsShape, MakesCalls, behind_first, copying, first_of, is_copy, is_source, last_calls};
-ghost use Rattle.page_store.specs.Journal.{noted, writes_below};
+ghost use Rattle.page_store.specs.Journal.{noted_steps, writes_below};
 ghost use Rattle.page_store.specs.StoreCalls.{StaysStore};
 ghost use Rattle.page_store.specs.WritingBack.{AreStored};
 ghost use Rattle.page_store.specs.declared.step.Step.{Step};
@@ -69,7 +69,7 @@ fn copy_page<S: Store, T: Store>(
         × (length (T.pages copy.old) ≡ length (S.pages source.old)) }
     ensures read { IsTrue (S.steady source.old) → OnOk result (slice_get (S.pages source.old) n ≡ Some page.new) }
     ensures put { IsTrue (T.steady copy.old) → OnOk result (T.pages copy.new ≡ slice_set (T.pages copy.old) n page.new) }
-    ensures call { OnOk result (T.journal copy.new ≡ noted (T.journal copy.old) (Step.Write n page.new ∷ [])) }
+    ensures call { OnOk result (T.journal copy.new ≡ noted_steps (T.journal copy.old) (Step.Write n page.new ∷ [])) }
     ensures no_call { OnErr result (T.journal copy.new ≡ T.journal copy.old) }
     ensures fault { IfErr result (IsCopyFault (S.pages source.old) (S.tail source.old)) }
     ensures stays { StaysStore S.StoreState source.old source.new }

@@ -3,7 +3,7 @@ use Rattle.std.proofs.Common.{◌≡◌, ◌↔◌, ◌⊎◌, ⊎_elim, ℕ, ze
 use Rattle.std.proofs.Math.Numerals.{add-one}
 use Rattle.std.proofs.lemmas.Bool.{ne_eqb}
 use Rattle.std.proofs.lemmas.List.{take_all}
-use Rattle.page_journal.specs.Files.{Kept, Files, AscendBelow, SaysRest, IsOf, is_kept}
+use Rattle.page_journal.specs.Files.{SideFile, Files, AscendBelow, SaysRest, IsOf, is_kept}
 use Rattle.page_journal.specs.Sums.{SumsOn, sum_on, sum_without}
 use Rattle.page_journal.specs.Steps.{kept_at, side_shape}
 use Rattle.page_journal.specs.declared.disk_state.DiskState.{Ghosts}
@@ -42,15 +42,15 @@ ascend_last least end [] p up = up.1
 ascend_last least end (q ∷ kept) p up = ascend_last (suc q.0) end kept p up.2
 
 -- of the first old pages: their numbers ascend, next is the least that may come, and the sum is that over the pages before it but theirs
-pub record Passed (kept : Kept) (pages : List (List ℕ)) (i next sum : ℕ) : Type 0 where
+pub record Passed (kept : SideFile) (pages : List (List ℕ)) (i next sum : ℕ) : Type 0 where
   pub up : AscendBelow 0 next (take i kept.pages)
   pub least : (m : ℕ) → AscendBelow 0 m (take i kept.pages) → next ≤ m
   pub summed : sum ≡ sum_without (is_kept (take i kept.pages)) next pages
 
-pub passed_none : (kept : Kept) (pages : List (List ℕ)) (sum : ℕ) → sum ≡ sum_without (is_kept []) 0 pages → Passed kept pages 0 0 sum
+pub passed_none : (kept : SideFile) (pages : List (List ℕ)) (sum : ℕ) → sum ≡ sum_without (is_kept []) 0 pages → Passed kept pages 0 0 sum
 passed_none kept pages sum is = record { up = tt; least = λ m up. omega arith; summed = is }
 
-pub passed_one : (kept : Kept) (pages : List (List ℕ)) (i next n sum more : ℕ) (page : List ℕ) → Passed kept pages i next sum → next ≤ n → slice_get kept.pages i ≡ Some (n, page) → SumsOn pages next n sum more → Passed kept pages (i + 1) (n + 1) more
+pub passed_one : (kept : SideFile) (pages : List (List ℕ)) (i next n sum more : ℕ) (page : List ℕ) → Passed kept pages i next sum → next ≤ n → slice_get kept.pages i ≡ Some (n, page) → SumsOn pages next n sum more → Passed kept pages (i + 1) (n + 1) more
 passed_one kept pages i next n sum more page so le there on = subst (λ j. Passed kept pages j (n + 1) more) (sym (add-one i)) (subst (λ m. Passed kept pages (suc i) m more) (sym (add-one n)) now)
   where
     front : List (ℕ × List ℕ)
@@ -73,13 +73,13 @@ passed_one kept pages i next n sum more page so le there on = subst (λ j. Passe
     }
 
 -- where one doesn't come next, they don't ascend
-pub passed_over : (kept : Kept) (pages : List (List ℕ)) (i next n sum : ℕ) (page : List ℕ) → Passed kept pages i next sum → slice_get kept.pages i ≡ Some (n, page) → (n < next) ⊎ (kept.long ≤ n) → AscendBelow 0 kept.long kept.pages → ⊥
+pub passed_over : (kept : SideFile) (pages : List (List ℕ)) (i next n sum : ℕ) (page : List ℕ) → Passed kept pages i next sum → slice_get kept.pages i ≡ Some (n, page) → (n < next) ⊎ (kept.long ≤ n) → AscendBelow 0 kept.long kept.pages → ⊥
 passed_over kept pages i next n sum page so there bad up =
     let front = ascend_front 0 kept.long kept.pages i (n, page) up there in
     ⊎_elim (λ early. omega (arith, early, so.least n front.2)) (λ late. omega (arith, late, front.1)) bad
 
 -- all of them, and the pages behind the last
-pub passed_all : (kept : Kept) (pages : List (List ℕ)) (i next sum more : ℕ) → Passed kept pages i next sum → length kept.pages ≤ i → next ≤ kept.long → SumsOn pages next kept.long sum more → AscendBelow 0 kept.long kept.pages × (more ≡ sum_without (is_kept kept.pages) kept.long pages)
+pub passed_all : (kept : SideFile) (pages : List (List ℕ)) (i next sum more : ℕ) → Passed kept pages i next sum → length kept.pages ≤ i → next ≤ kept.long → SumsOn pages next kept.long sum more → AscendBelow 0 kept.long kept.pages × (more ≡ sum_without (is_kept kept.pages) kept.long pages)
 passed_all kept pages i next sum more so all le on =
     let whole : take i kept.pages ≡ kept.pages = take_all i kept.pages all in
     let up : AscendBelow 0 next kept.pages = subst (λ ps. AscendBelow 0 next ps) whole so.up in (
@@ -111,19 +111,19 @@ rest_in marks pages n sum page is unmarked there =
     sums_more pages n n sum sum page (sums_none pages n sum) (omega arith) there (λ k. get_or marks k false) (λ k above below. ap (λ m. get_or marks m false) (omega (arith, above, below)) ∙ unmarked) is
 
 -- the old page that a disk reads is one of its side file
-pub found_at : {D : Type 0} (g : Ghosts D) (kept : Kept) (old mid : D) (i : ℕ) (p : ℕ × List ℕ) → (g.seen old).side ≡ Some kept → g.seen mid ≡ g.seen old → kept_at (g.seen mid).side i ≡ Some p → slice_get kept.pages i ≡ Some p
-found_at g kept old mid i p side same found = ap (λ (s : Option Kept). kept_at s i) (sym side ∙ ap (λ (f : Files). f.side) (sym same)) ∙ found
+pub found_at : {D : Type 0} (g : Ghosts D) (kept : SideFile) (old mid : D) (i : ℕ) (p : ℕ × List ℕ) → (g.seen old).side ≡ Some kept → g.seen mid ≡ g.seen old → kept_at (g.seen mid).side i ≡ Some p → slice_get kept.pages i ≡ Some p
+found_at g kept old mid i p side same found = ap (λ (s : Option SideFile). kept_at s i) (sym side ∙ ap (λ (f : Files). f.side) (sym same)) ∙ found
 
 -- whether a side file is one of a file, by what it says of the rest
-pub of_shape : (kept : Kept) (side : SideShape) (pages : List (List ℕ)) → side_shape (Some kept) ≡ Some side → (kept.long ≡ side.long) × (length kept.pages ≡ side.kept) × (kept.rest ≡ side.rest)
+pub of_shape : (kept : SideFile) (side : SideShape) (pages : List (List ℕ)) → side_shape (Some kept) ≡ Some side → (kept.long ≡ side.long) × (length kept.pages ≡ side.kept) × (kept.rest ≡ side.rest)
 of_shape kept side pages is =
     let same : record { long = kept.long; kept = length kept.pages; rest = kept.rest } ≡ side = ap (λ (o : Option SideShape). unwrap_or o side) is in
     (ap (λ (p : SideShape). p.long) same, ap (λ (p : SideShape). p.kept) same, ap (λ (p : SideShape). p.rest) same)
 
-pub says_nothing : (kept : Kept) (pages : List (List ℕ)) → kept.long ≤ length pages → kept.rest ≡ None → IsOf kept pages
+pub says_nothing : (kept : SideFile) (pages : List (List ℕ)) → kept.long ≤ length pages → kept.rest ≡ None → IsOf kept pages
 says_nothing kept pages long none = record { long = long; rest = subst (SaysRest kept pages) (sym none) tt }
 
-pub says_rest : (kept : Kept) (pages : List (List ℕ)) (rest : ℕ) (found : Option ℕ) → kept.long ≤ length pages → kept.rest ≡ Some rest → MatchOption found (AscendBelow 0 kept.long kept.pages → ⊥) (λ sum. AscendBelow 0 kept.long kept.pages × (sum ≡ sum_without (is_kept kept.pages) kept.long pages)) → (found ≡ Some rest) ↔ IsOf kept pages
+pub says_rest : (kept : SideFile) (pages : List (List ℕ)) (rest : ℕ) (found : Option ℕ) → kept.long ≤ length pages → kept.rest ≡ Some rest → MatchOption found (AscendBelow 0 kept.long kept.pages → ⊥) (λ sum. AscendBelow 0 kept.long kept.pages × (sum ≡ sum_without (is_kept kept.pages) kept.long pages)) → (found ≡ Some rest) ↔ IsOf kept pages
 says_rest kept pages rest None long some had = (λ is. absurd (cc), λ own. absurd (had (subst (SaysRest kept pages) some own.rest).0))
 says_rest kept pages rest (Some sum) long some had = (
   λ is. record { long = long; rest = subst (SaysRest kept pages) (sym some) (had.0, sym (ap (λ (o : Option ℕ). unwrap_or o rest) is) ∙ had.1) },

@@ -5,7 +5,7 @@ use Rattle.commit_paper.specs.Text.{zeros, Mixes}
 use Rattle.commit_paper.specs.Steps.{Lengthens, Inks}
 use Rattle.commit_paper.proofs.Inked.{lengthens_none, inks_none, inks_all}
 use Rattle.page_journal.specs.Files.{CommitFiles}
-use Rattle.page_journal.specs.Steps.{OnLog, ChangesLog, written, zeroed}
+use Rattle.page_journal.specs.Steps.{OnLog, ChangesLog, bytes_over, zeroed}
 use Rattle.page_journal.specs.History.{commits_done, commits_lead}
 use Rattle.page_journal.specs.Fates.{commits_torn, CommitsAgree, front_of}
 use Rattle.page_journal.specs.declared.commit_call.CommitCall.{CommitCall}
@@ -34,7 +34,7 @@ drop_take (suc k) zero x le = absurd (omega (arith, le))
 drop_take (suc k) (suc n) [] le = refl
 drop_take (suc k) (suc n) (b ∷ x) le = drop_take k n x (omega (arith, le))
 
-inks_front : (at : ℕ) (bytes d : List ℕ) → Inks at bytes d (written at (front_of bytes) d)
+inks_front : (at : ℕ) (bytes d : List ℕ) → Inks at bytes d (bytes_over at (front_of bytes) d)
 inks_front at bytes d =
     let k = length bytes - 1 in
     let front = take k bytes in
@@ -54,8 +54,8 @@ inks_front at bytes d =
 zeroes : (at n : ℕ) (b : List ℕ) → Lengthens at b (zeroed at n b)
 zeroes at n b = record { more = zeros n; spelt = refl }
 
-writes : (at : ℕ) (bytes b : List ℕ) → Inks at bytes b (written at bytes b)
-writes at bytes b = inks_all at bytes b (written at bytes b) refl
+writes : (at : ℕ) (bytes b : List ℕ) → Inks at bytes b (bytes_over at bytes b)
+writes at bytes b = inks_all at bytes b (bytes_over at bytes b) refl
 
 -- what these do to the log of the name
 pub zeroed_log : (at n : ℕ) (f : CommitFiles) → ChangesLog (Lengthens at) f (record f { log = option_map (zeroed at n) f.log })
@@ -64,8 +64,8 @@ zeroed_log at n f = (refl, on_log (Lengthens at) (zeroed at n) (zeroes at n) f.l
 pub same_log : (at : ℕ) (f : CommitFiles) → ChangesLog (Lengthens at) f f
 same_log at f = (refl, on_none (Lengthens at) (lengthens_none at) f.log)
 
-pub written_log : (at : ℕ) (bytes : List ℕ) (f : CommitFiles) → ChangesLog (Inks at bytes) f (record f { log = option_map (written at bytes) f.log })
-written_log at bytes f = (refl, on_log (Inks at bytes) (written at bytes) (writes at bytes) f.log)
+pub written_log : (at : ℕ) (bytes : List ℕ) (f : CommitFiles) → ChangesLog (Inks at bytes) f (record f { log = option_map (bytes_over at bytes) f.log })
+written_log at bytes f = (refl, on_log (Inks at bytes) (bytes_over at bytes) (writes at bytes) f.log)
 
 pub unwritten_log : (at : ℕ) (bytes : List ℕ) (f : CommitFiles) → ChangesLog (Inks at bytes) f f
 unwritten_log at bytes f = (refl, on_none (Inks at bytes) (inks_none at bytes) f.log)
@@ -80,7 +80,7 @@ commits_fated (Lengthen at n) seen d agree = (zeroed_log at n d, same_log at d, 
 commits_fated (Write at bytes) seen d agree = (
   written_log at bytes.items d,
   unwritten_log at bytes.items d,
-  (refl, on_log (Inks at bytes.items) (written at (front_of bytes.items)) (inks_front at bytes.items) d.log),
+  (refl, on_log (Inks at bytes.items) (bytes_over at (front_of bytes.items)) (inks_front at bytes.items) d.log),
 )
 commits_fated Sync seen d agree = ((refl, agree), (refl, agree), (refl, agree))
 

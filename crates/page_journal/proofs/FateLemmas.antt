@@ -8,7 +8,7 @@ use Rattle.page_journal.specs.Files.{Files}
 use Rattle.page_journal.specs.Steps.{GrowsUpTo}
 use Rattle.rec_types.specs.declared.memory.Memory.{Memory}
 use Rattle.page_journal.specs.History.{History, done, all_done, MayLeave, LeftSince, left_now}
-use Rattle.page_journal.specs.Fates.{noise, grown, kept_by, fated, NamesAgree, first_calls}
+use Rattle.page_journal.specs.Fates.{noise, grown, synced_by, fated, NamesAgree, first_calls}
 use Rattle.page_journal.specs.declared.disk_call.DiskCall.{DiskCall}
 use Rattle.page_journal.specs.declared.disk_call.DiskCall.TheVariants.{Write, Grow, Cut, Sync, Start, Keep, SyncFresh, Name, Remove, SyncNames, Commits}
 use Rattle.page_journal.specs.declared.fate.Fate.{Fate}
@@ -111,7 +111,7 @@ next_call : (items : List DiskCall) (k : ℕ) (none : DiskCall) → k < length i
 next_call items k none below = ap (λ n. reverse (take n items)) (add-one k) ∙ ap reverse (take-suc items k none below) ∙ reverse-append (take k items) (get_or items k none ∷ [])
 
 -- a call that is done leaves what is seen
-pub kept_itself : (call : DiskCall) (f : Files) → kept_by call f f ≡ f
+pub kept_itself : (call : DiskCall) (f : Files) → synced_by call f f ≡ f
 kept_itself (Write n page) f = refl
 kept_itself (Grow n) f = refl
 kept_itself (Cut n) f = refl
@@ -126,7 +126,7 @@ kept_itself (Commits call) f = refl
 
 pub all_fated : (call : DiskCall) (fate : Fate) (left seen next new : Files) → fate ≡ Done → left ≡ seen → next ≡ done call seen → new ≡ fated call fate next left → new ≡ next
 all_fated call fate left seen next new is same does gives =
-    gives ∙ ap (λ fate. fated call fate next left) is ∙ ap (λ f. kept_by call next (done call f)) same ∙ ap (kept_by call next) (sym does) ∙ kept_itself call next
+    gives ∙ ap (λ fate. fated call fate next left) is ∙ ap (λ f. synced_by call next (done call f)) same ∙ ap (synced_by call next) (sym does) ∙ kept_itself call next
 
 -- the crash that the fates say, one call on
 pub fated_next : (first : Files) (items : List DiskCall) (k : ℕ) (none : DiskCall) (fate : Fate) (left seen next new : Files) → k < length items → MayLeave first (reverse (take k items)) left → seen ≡ all_done first (reverse (take k items)) → next ≡ done (get_or items k none) seen → NamesAgree (get_or items k none) next left → new ≡ fated (get_or items k none) fate next left → MayLeave first (reverse (take (k + 1) items)) new

@@ -7,7 +7,7 @@ use Rattle.page_store.specs.Blank.{blank, blanks}
 use Rattle.page_store.specs.FileValues.{gives_back}
 use Rattle.page_store.specs.declared.store_fault.StoreFault.{StoreFault}
 use Rattle.page_journal.specs.Files.{Files}
-use Rattle.page_journal.specs.Steps.{Does, Nothing, GrowsUpTo, CutsTo, Fresh, Names, Removes, FreshLog, NamesLog, RemovesLog, OnLog, ChangesLog, InCommits}
+use Rattle.page_journal.specs.Steps.{Does, Nothing, GrowsUpTo, CutsTo, Fresh, Names, RemovesSide, FreshLog, NamesLog, RemovesLog, OnLog, ChangesLog, InCommits}
 use Rattle.page_journal.specs.FileDisks.{OpenedDisk, SetsLength, files_seen, files_at_opening, may_be_left, left_since_in_files}
 use Rattle.page_journal.specs.declared.disk_state.DiskState.{Ghosts}
 
@@ -122,7 +122,7 @@ fresh_none d = record { main = refl; side = refl; commits = refl }
 pub names_none : (d : Files) → Names d d
 names_none d = record { main = refl; side = inl refl; commits = refl }
 
-pub removes_none : (d : Files) → Removes d d
+pub removes_none : (d : Files) → RemovesSide d d
 removes_none d = record { main = refl; side = inl refl; commits = refl }
 
 blanks_more : (few many : ℕ) → few ≤ many → blanks many ≡ blanks few ++ blanks (many - length (blanks few))

@@ -5,14 +5,14 @@ use Rattle.std.proofs.lemmas.Option.{none-some}
 use Rattle.std.specs.declared.alloc.Global.{Global}
 use Rattle.commit_paper.specs.Steps.{Inks}
 use Rattle.page_journal.specs.Files.{PageFile, CommitFiles, Files}
-use Rattle.page_journal.specs.Steps.{nothing_kept, written, OnLog}
+use Rattle.page_journal.specs.Steps.{nothing_kept, bytes_over, OnLog}
 use Rattle.page_journal.specs.History.{MayLeave}
-use Rattle.page_journal.specs.Examples.{alone, old_file, log_made, log_named_early, with_log}
+use Rattle.page_journal.specs.Examples.{without_side_file, old_file, log_made, log_named_early, with_log}
 use Rattle.page_journal.specs.declared.disk_call.DiskCall.TheVariants.{SyncNames, Commits}
 use Rattle.page_journal.specs.declared.commit_call.CommitCall.TheVariants.{Start, SyncFresh, Name, Write, Sync}
 use Rattle.page_journal.proofs.CommitFateLemmas.{unwritten_log}
 
-pub made_there : (bytes : Vec ℕ Global) (c : Files) → MayLeave (alone old_file) (log_made bytes) c → (c.commits.log ≡ Some bytes.items) × (c.main ≡ old_file)
+pub made_there : (bytes : Vec ℕ Global) (c : Files) → MayLeave (without_side_file old_file) (log_made bytes) c → (c.commits.log ≡ Some bytes.items) × (c.main ≡ old_file)
 made_there bytes c left =
     let named = left.0 in
     let kept = left.1.0 in
@@ -33,12 +33,12 @@ made_there bytes c left =
 other : Files
 other = with_log old_file (9 ∷ [])
 
-pub never_early : (bytes : Vec ℕ Global) → bytes.items ≡ 7 ∷ [] → ((c : Files) → MayLeave (alone old_file) (log_named_early bytes) c → c.commits.log ≡ Some bytes.items) → ⊥
+pub never_early : (bytes : Vec ℕ Global) → bytes.items ≡ 7 ∷ [] → ((c : Files) → MayLeave (without_side_file old_file) (log_named_early bytes) c → c.commits.log ≡ Some bytes.items) → ⊥
 unfolding other
 never_early bytes is all =
     let begun : Files = record { main = old_file; fresh = nothing_kept 0; side = None; commits = record { fresh = 9 ∷ []; log = None } } in
-    let left : MayLeave (alone old_file) (log_named_early bytes) other =
-    (other, (begun, (alone old_file, refl, record { main = refl; fresh = refl; side = refl; commits = refl }), record { main = refl; fresh = refl; side = refl; commits = inr refl }), (refl, refl, refl)) in
+    let left : MayLeave (without_side_file old_file) (log_named_early bytes) other =
+    (other, (begun, (without_side_file old_file, refl, record { main = refl; fresh = refl; side = refl; commits = refl }), record { main = refl; fresh = refl; side = refl; commits = inr refl }), (refl, refl, refl)) in
     let says = ap (λ (o : Option (List ℕ)). get_or (unwrap_or o []) 0 0) (all other left ∙ ap (λ (b : List ℕ). Some b) is) in
     omega (arith, says)
 
@@ -52,5 +52,5 @@ synced_there bytes c is left =
     let was = subst (λ (f : Files). OnLog (Inks 0 bytes.items) f.commits.log left.0.commits.log) left.1.1 left.1.2.commits.1 in
     let same : c.commits.log ≡ left.0.commits.log = ap (λ (f : CommitFiles). f.log) left.2.commits.0 in
     ⊎_elim (λ none. absurd (none-some was.0 (sym none ∙ same ∙ was.1)))
-    (λ now. now ∙ ap (λ (k : List ℕ). Some (written 0 k (0 ∷ []))) is)
+    (λ now. now ∙ ap (λ (k : List ℕ). Some (bytes_over 0 k (0 ∷ []))) is)
     left.2.commits.1

@@ -1,7 +1,7 @@
 -- How calls leave a part of the files.
 use Rattle.std.proofs.Common.{◌≡◌, ℕ, refl, ◌∙◌, ap}
 use Rattle.page_journal.specs.Files.{Files}
-use Rattle.page_journal.specs.Steps.{Does, Stays, TornAt, GrowsUpTo, CutsTo, Fresh, Names, Removes}
+use Rattle.page_journal.specs.Steps.{Does, Stays, TornAt, GrowsUpTo, CutsTo, Fresh, Names, RemovesSide}
 use Rattle.page_journal.specs.Crash.{LeavesPart, HasPartOf, LeavesLogs, logs_of}
 use Rattle.page_journal.specs.declared.disk_state.DiskState.{Ghosts}
 use Rattle.page_journal.proofs.MomentLemmas.{started, goes_on, then_runs, weaker}
@@ -70,5 +70,5 @@ module _ {D : Type 0} (g : Ghosts D) where
   pub logs_names : (old mid new : D) → LeavesLogs g old mid → Does g Names mid new → LeavesLogs g old new
   logs_names old mid new = part_more g logs_of Names old mid new (λ d c step. step.commits)
 
-  pub logs_removes : (old mid new : D) → LeavesLogs g old mid → Does g Removes mid new → LeavesLogs g old new
-  logs_removes old mid new = part_more g logs_of Removes old mid new (λ d c step. step.commits)
+  pub logs_removes : (old mid new : D) → LeavesLogs g old mid → Does g RemovesSide mid new → LeavesLogs g old new
+  logs_removes old mid new = part_more g logs_of RemovesSide old mid new (λ d c step. step.commits)

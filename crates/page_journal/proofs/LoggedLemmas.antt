@@ -5,11 +5,11 @@ use Rattle.commit_paper.specs.Text.{units_of, unit_text, log_text, IsUnit, AreUn
 use Rattle.commit_paper.specs.Shown.{Shows}
 use Rattle.commit_paper.proofs.Scans.{log_passes}
 use Rattle.commit_paper.proofs.Shown.{shown_units, before}
-use Rattle.page_journal.specs.Files.{PageFile, Kept, CommitFiles, Files, BelongsTo, recovered, recovered_by}
-use Rattle.page_journal.specs.Crash.{LeavesOnly, LeavesLogs, LeavesPages, IsSettled, StandsFor, IsEither, logs_of, pages_of}
+use Rattle.page_journal.specs.Files.{PageFile, SideFile, CommitFiles, Files, BelongsTo, recovered, recovered_by}
+use Rattle.page_journal.specs.Crash.{LeavesOnly, LeavesLogs, LeavesPages, IsSettled, FilesStandFor, StandsForEither, logs_of, pages_of}
 use Rattle.page_journal.specs.KeptStores.{IsGuarded, KeptStored, old_file_of, opened_over}
 use Rattle.page_store.specs.Opening.{Opening}
-use Rattle.page_journal.specs.Logging.{HasLog, HasNoLog, Says, SaysEither, SaysNoneOr, Stands, IsReady}
+use Rattle.page_journal.specs.Logging.{HasLog, HasNoLog, Says, SaysEither, SaysNoneOr, StandsInLog, IsReady}
 use Rattle.page_journal.specs.LoggedStores.{AreFirst, SaysFirst, SaysDoubt, SaysAll, MayFind, FindsAll, FindsNow, HoldsLog, HoldsCommits, IsLogged, DoubtStops, LeavesWithCommits, units_before, commits_in}
 use Rattle.page_journal.proofs.KeptStoreLemmas.{same_guard}
 use Rattle.page_journal.specs.declared.disk_state.DiskState.{Ghosts}
@@ -57,7 +57,7 @@ pub opening_grown : {D : Type 0} (g : Ghosts D) (old new : D) → g.began new �
 opening_grown g old new began log place next is more commits doubt now = λ i. record (opened_over (began i) (sym is i) more now) { logged = is_some (sym is i) }
 
 -- units that stand before a place are read there
-pub stood : (units : Units) (place : LogPlace) (f : Files) → AreUnits units → Stands units place f → commits_in (Some place) f ≡ units
+pub stood : (units : Units) (place : LogPlace) (f : Files) → AreUnits units → StandsInLog units place f → commits_in (Some place) f ≡ units
 stood units place f whole stand =
     ap (λ (o : Option (List ℕ)). units_before place.end o) stand.1
     ∙ ap (λ (k : List ℕ). units_of k) (stand.2 ∙ sym (append-nil (log_text units)))
@@ -97,7 +97,7 @@ on_every (Ok _) p = p
 on_every (Err _) p = tt
 
 module _ {D : Type 0} (g : Ghosts D) where
-  pub ready_stands : (units : Units) (place : LogPlace) (disk : D) → IsReady g units place disk → Stands units place (g.seen disk)
+  pub ready_stands : (units : Units) (place : LogPlace) (disk : D) → IsReady g units place disk → StandsInLog units place (g.seen disk)
   ready_stands units place disk ready = (ready.seen.0, ready.seen.1, before units ready.room ready.seen.0 ready.seen.2 place.end ready.end)
 
   ready_says : (units : Units) (place : LogPlace) (disk : D) → IsReady g units place disk → (c : Files) → g.may_leave disk c → Says units c
@@ -119,7 +119,7 @@ module _ {D : Type 0} (g : Ghosts D) where
   }
 
   -- a log that holds these units, and what it may have left
-  logged_of : (units : Units) (place : LogPlace) (doubt : List ℕ) (disk : D) → units ≢ [] → AreUnits units → Stands units place (g.seen disk) → ((c : Files) → g.may_leave disk c → SaysAll units doubt c) → (doubt ≡ [] → IsReady g units place disk) → ((c : Files) → g.left_since disk 0 c → SaysFirst units c ⊎ SaysDoubt units doubt c) → IsLogged g (Some place) doubt disk
+  logged_of : (units : Units) (place : LogPlace) (doubt : List ℕ) (disk : D) → units ≢ [] → AreUnits units → StandsInLog units place (g.seen disk) → ((c : Files) → g.may_leave disk c → SaysAll units doubt c) → (doubt ≡ [] → IsReady g units place disk) → ((c : Files) → g.left_since disk 0 c → SaysFirst units c ⊎ SaysDoubt units doubt c) → IsLogged g (Some place) doubt disk
   logged_of units place doubt disk some whole stand now ready time = record {
     holds = record { units = units; some = some; whole = whole; stand = stand; now = now; ready = ready };
     time = λ c left. subst (λ (u : Units). SaysFirst u c ⊎ SaysDoubt u doubt c) (sym (stood units place (g.seen disk) whole stand)) (time c left);
@@ -180,7 +180,7 @@ module _ {D : Type 0} (g : Ghosts D) where
         finds_all_same log (g.began old) (commits_in log (g.seen old)) c has.0 (ap (λ (k : CommitFiles). k.log) has.2) (finds_now log doubt old none logged has.0 has.1)
 
     -- what a giving up of the old pages leaves, with what it may leave of the commits
-    pub finish_commits : (log : Option LogPlace) (doubt : List ℕ) (was main : PageFile) (old new : D) → doubt ≡ [] → LeavesLogs g old new → IsLogged g log doubt old → ((c : Files) → g.left_since old 0 c → StandsFor was c) → ((c : Files) → g.left_since new 0 c → IsEither was main c) → (c : Files) → g.left_since new 0 c → LeavesWithCommits log (g.began old) (commits_in log (g.seen old)) doubt was main c
+    pub finish_commits : (log : Option LogPlace) (doubt : List ℕ) (was main : PageFile) (old new : D) → doubt ≡ [] → LeavesLogs g old new → IsLogged g log doubt old → ((c : Files) → g.left_since old 0 c → FilesStandFor was c) → ((c : Files) → g.left_since new 0 c → StandsForEither was main c) → (c : Files) → g.left_since new 0 c → LeavesWithCommits log (g.began old) (commits_in log (g.seen old)) doubt was main c
     finish_commits log doubt was main old new none leaves logged time either c left = ⊎_elim
         (λ before. inl (time c before, logged.time c before))
         (λ has.
@@ -195,22 +195,22 @@ module _ {D : Type 0} (g : Ghosts D) where
     taken_commits = leaves_time
 
     -- calls that leave all but the log of commits, of a store where nothing was written over
-    stands_same : (was : PageFile) (c d : Files) → pages_of c ≡ pages_of d → StandsFor was d → StandsFor was c
-    stands_same was c d is stands = subst (λ (k : PageFile × (Kept × Option Kept)). BelongsTo k.1.1 k.0.pages × (recovered_by k.1.1 k.0 ≡ was)) (sym is) stands
+    stands_same : (was : PageFile) (c d : Files) → pages_of c ≡ pages_of d → FilesStandFor was d → FilesStandFor was c
+    stands_same was c d is stands = subst (λ (k : PageFile × (SideFile × Option SideFile)). BelongsTo k.1.1 k.0.pages × (recovered_by k.1.1 k.0 ≡ was)) (sym is) stands
 
-    pages_time : (was : PageFile) (old new : D) → LeavesPages g old new → ((c : Files) → g.left_since old 0 c → StandsFor was c) → (c : Files) → g.left_since new 0 c → StandsFor was c
+    pages_time : (was : PageFile) (old new : D) → LeavesPages g old new → ((c : Files) → g.left_since old 0 c → FilesStandFor was c) → (c : Files) → g.left_since new 0 c → FilesStandFor was c
     pages_time was old new leaves time c left = ⊎_elim (time c)
         (λ has. stands_same was c has.0 has.2 (time has.0 (counts old 0 has.0 (omega arith) has.1)))
         (leaves.time.before 0 c (omega arith) left)
 
     settled_leaves : (was : PageFile) (old new : D) → LeavesPages g old new → IsSettled g was old → IsSettled g was new
     settled_leaves was old new leaves settled = record {
-      seen = ap (λ (k : PageFile × (Kept × Option Kept)). k.0) leaves.seen ∙ settled.seen;
-      no_side = ap (λ (k : PageFile × (Kept × Option Kept)). k.1.1) leaves.seen ∙ settled.no_side;
+      seen = ap (λ (k : PageFile × (SideFile × Option SideFile)). k.0) leaves.seen ∙ settled.seen;
+      no_side = ap (λ (k : PageFile × (SideFile × Option SideFile)). k.1.1) leaves.seen ∙ settled.no_side;
       crash = λ c left.
           let has = leaves.now c left in
           let was = settled.crash has.0 has.1 in
-          (ap (λ (k : PageFile × (Kept × Option Kept)). k.0) has.2 ∙ was.0, ap (λ (k : PageFile × (Kept × Option Kept)). k.1.1) has.2 ∙ was.1);
+          (ap (λ (k : PageFile × (SideFile × Option SideFile)). k.0) has.2 ∙ was.0, ap (λ (k : PageFile × (SideFile × Option SideFile)). k.1.1) has.2 ∙ was.1);
     }
 
     pub guarded_leaves : (was : PageFile) (flags : List Bool) (old new : D) → LeavesPages g old new → IsGuarded g was Unsealed flags old → IsGuarded g was Unsealed flags new
@@ -221,11 +221,11 @@ module _ {D : Type 0} (g : Ghosts D) where
 
     pub stopped_leaves : (was : PageFile) (flags : List Bool) (old new : D) → LeavesPages g old new → IsGuarded g was Unsealed flags old → IsGuarded g was Stopped flags new
     stopped_leaves was flags old new leaves guarded = record {
-      so = ap (λ (k : PageFile × (Kept × Option Kept)). k.0) leaves.seen ∙ guarded.so.seen;
+      so = ap (λ (k : PageFile × (SideFile × Option SideFile)). k.0) leaves.seen ∙ guarded.so.seen;
       time = pages_time was old new leaves guarded.time;
     }
 
-    pub begun_time : (was : PageFile) (flags : List Bool) (old new : D) → LeavesPages g old new → IsGuarded g was Unsealed flags old → (c : Files) → g.left_since new 0 c → StandsFor was c
+    pub begun_time : (was : PageFile) (flags : List Bool) (old new : D) → LeavesPages g old new → IsGuarded g was Unsealed flags old → (c : Files) → g.left_since new 0 c → FilesStandFor was c
     begun_time was flags old new leaves guarded = pages_time was old new leaves guarded.time
 
     -- a log is begun
@@ -272,12 +272,12 @@ module _ {D : Type 0} (g : Ghosts D) where
           logged_of held next [] new logged.holds.some ready.whole (ready_stands held next new ready) (λ c left. inl (ready_says held next new ready c left)) (λ _. ready)
           (λ c left. inl (⊎_elim (was_first c) (λ says. inr (held, whole_first held, logged.holds.some, says)) (moment.before 0 c (omega arith) left)))
 
-      pub same_commits : Stands held next (g.seen new) → commits_in (Some next) (g.seen new) ≡ commits_in (Some place) (g.seen old)
+      pub same_commits : StandsInLog held next (g.seen new) → commits_in (Some next) (g.seen new) ≡ commits_in (Some place) (g.seen old)
       same_commits stand =
           stood held next (g.seen new) logged.holds.whole stand
           ∙ sym (stood held place (g.seen old) logged.holds.whole logged.holds.stand)
 
-      pub doubt_logged : (unit : List (List ℕ)) (text : List ℕ) → IsUnit unit → text ≡ unit_text unit → Stands held next (g.seen new) → LeavesOnly g (SaysEither held unit) old new → IsLogged g (Some next) text new
+      pub doubt_logged : (unit : List (List ℕ)) (text : List ℕ) → IsUnit unit → text ≡ unit_text unit → StandsInLog held next (g.seen new) → LeavesOnly g (SaysEither held unit) old new → IsLogged g (Some next) text new
       doubt_logged unit text is spelt stand moment =
           logged_of held next text new logged.holds.some logged.holds.whole stand (λ c left. ⊎_elim (λ same. inl same) (λ more. inr (unit, is, spelt, more)) (moment.each c (counts new (g.moment old) c moment.later left))) (λ empty. absurd (text_some unit is (sym empty ∙ spelt)))
           (λ c left. ⊎_elim
@@ -297,7 +297,7 @@ module _ {D : Type 0} (g : Ghosts D) where
           all.2,
         )
 
-    pub begin_stops : (state : SealState) (flags : List Bool) (log : Option LogPlace) (doubt : List ℕ) (old new : D) (unit : List (List ℕ)) → state ≡ Unsealed → log ≡ None → (g.began old).commits.log ≡ None → LeavesPages g old new → (HasNoLog g old → LeavesOnly g (SaysNoneOr (unit ∷ [])) old new) → IsGuarded g (old_file_of g old) state flags old × IsLogged g log doubt old × DoubtStops state doubt → (c : Files) → g.left_since new 0 c → StandsFor (old_file_of g old) c × SaysNoneOr (unit ∷ []) c
+    pub begin_stops : (state : SealState) (flags : List Bool) (log : Option LogPlace) (doubt : List ℕ) (old new : D) (unit : List (List ℕ)) → state ≡ Unsealed → log ≡ None → (g.began old).commits.log ≡ None → LeavesPages g old new → (HasNoLog g old → LeavesOnly g (SaysNoneOr (unit ∷ [])) old new) → IsGuarded g (old_file_of g old) state flags old × IsLogged g log doubt old × DoubtStops state doubt → (c : Files) → g.left_since new 0 c → FilesStandFor (old_file_of g old) c × SaysNoneOr (unit ∷ []) c
     begin_stops state flags log doubt old new unit is unlogged none pages moment all c left =
         let guarded = subst (λ s. IsGuarded g (old_file_of g old) s flags old) is all.0 in
         let logged = subst (λ l. IsLogged g l doubt old) unlogged all.1 in (
@@ -341,14 +341,14 @@ module _ {D : Type 0} (g : Ghosts D) where
           let had = room logged.holds.units (logged.holds.ready refl) in
           same_commits place next old new logged (ready_stands logged.holds.units next new had.0)
 
-      pub doubt_all : (unit : List (List ℕ)) (text : List ℕ) → IsUnit unit → text ≡ unit_text unit → ((units : Units) → IsReady g units place old → Stands units next (g.seen new)) → ((units : Units) → IsReady g units place old → LeavesOnly g (SaysEither units unit) old new) → IsGuarded g (old_file_of g new) Stopped flags new × IsLogged g (Some next) text new × DoubtStops Stopped text
+      pub doubt_all : (unit : List (List ℕ)) (text : List ℕ) → IsUnit unit → text ≡ unit_text unit → ((units : Units) → IsReady g units place old → StandsInLog units next (g.seen new)) → ((units : Units) → IsReady g units place old → LeavesOnly g (SaysEither units unit) old new) → IsGuarded g (old_file_of g new) Stopped flags new × IsLogged g (Some next) text new × DoubtStops Stopped text
       doubt_all unit text is_unit spelt stand moment = (
         same_guard g Stopped flags old new new began (stopped_leaves (old_file_of g old) flags old new pages (subst (λ s. IsGuarded g (old_file_of g old) s flags old) is all.0)),
         doubt_logged place next old new logged unit text is_unit spelt (stand logged.holds.units (logged.holds.ready refl)) (moment logged.holds.units (logged.holds.ready refl)),
         tt,
       )
 
-      pub doubt_told : ((units : Units) → IsReady g units place old → Stands units next (g.seen new)) → commits_in (Some next) (g.seen new) ≡ commits_in (Some place) (g.seen old)
+      pub doubt_told : ((units : Units) → IsReady g units place old → StandsInLog units next (g.seen new)) → commits_in (Some next) (g.seen new) ≡ commits_in (Some place) (g.seen old)
       doubt_told stand = same_commits place next old new logged (stand logged.holds.units (logged.holds.ready refl))
 
     -- a disk that was just opened

@@ -8,9 +8,9 @@ use Rattle.commit_paper.specs.Shown.{Shows}
 use Rattle.commit_paper.specs.Steps.{Lengthens, Inks}
 use Rattle.commit_paper.proofs.Shown.{shown_units, before, torn_longer, longer, torn_ink, inked, more_units, more_end}
 use Rattle.page_journal.specs.Files.{CommitFiles, Files}
-use Rattle.page_journal.specs.Steps.{Does, Stays, InCommits, FreshLog, NamesLog, ChangesLog, OnLog, KeepsLog, names_of, written, zeroed}
+use Rattle.page_journal.specs.Steps.{Does, Stays, InCommits, FreshLog, NamesLog, ChangesLog, OnLog, KeepsLog, names_of, bytes_over, zeroed}
 use Rattle.page_journal.specs.Crash.{LeavesOnly, LeavesPages, pages_of}
-use Rattle.page_journal.specs.Logging.{HasLog, HasNoLog, Says, SaysEither, SaysNoneOr, Stands, IsReady}
+use Rattle.page_journal.specs.Logging.{HasLog, HasNoLog, Says, SaysEither, SaysNoneOr, StandsInLog, IsReady}
 use Rattle.page_journal.specs.declared.disk_state.DiskState.{Ghosts}
 use Rattle.page_journal.specs.declared.log_place.LogPlace.{LogPlace}
 use Rattle.page_journal.proofs.MomentLemmas.{started, goes_on}
@@ -124,7 +124,7 @@ module _ {D : Type 0} (g : Ghosts D) where
     -- bytes are written behind the units, or that was begun
     module _ (text : List ℕ) (mid : D) (does : Does g (InCommits (ChangesLog (Inks place.end text))) old mid) where
       -- the units stay in front of it
-      pub ink_stands : Stands units place (g.seen mid)
+      pub ink_stands : StandsInLog units place (g.seen mid)
       ink_stands = carried (Shows units ready.room) (λ b. take place.end b ≡ log_text units) (Inks place.end text) (λ b n shows inks. in_front b n shows inks) (g.seen old) (g.seen mid) ready.seen does.seen
         where
           in_front : (b n : List ℕ) → Shows units ready.room b → Inks place.end text b n → take place.end n ≡ log_text units
@@ -134,8 +134,8 @@ module _ {D : Type 0} (g : Ghosts D) where
               ∙ take_at (take place.end b) (inks.mixed ++ drop (place.end + length text) b) place.end (ap length was ∙ sym ready.end)
               ∙ was
 
-      pub stands_synced : (new : D) → Stays g mid new → Stands units place (g.seen new)
-      stands_synced new stays = subst (λ f. Stands units place f) (sym stays.seen) ink_stands
+      pub stands_synced : (new : D) → Stays g mid new → StandsInLog units place (g.seen new)
+      stands_synced new stays = subst (λ f. StandsInLog units place f) (sym stays.seen) ink_stands
 
     -- a unit is written, or that was begun
     module _ (unit : List (List ℕ)) (text : List ℕ) (is : IsUnit unit) (spelt : text ≡ unit_text unit) (fits : length text < ready.room) (mid : D) (does : Does g (InCommits (ChangesLog (Inks place.end text))) old mid) where
@@ -159,11 +159,11 @@ module _ {D : Type 0} (g : Ghosts D) where
           let from = stays.crash c left in
           subst (SaysEither units unit) (sym from.2) (ink_torn from.0 from.1))
 
-      pub ready_more : (new : D) → (g.seen mid).commits.log ≡ option_map (written place.end text) (g.seen old).commits.log → Stays g mid new → ((c : Files) → g.may_leave new c → KeepsLog (g.seen mid).commits c.commits) → (end : ℕ) → end ≡ place.end + length text → IsReady g (units ++ unit ∷ []) (record { end = end; long = place.long }) new
+      pub ready_more : (new : D) → (g.seen mid).commits.log ≡ option_map (bytes_over place.end text) (g.seen old).commits.log → Stays g mid new → ((c : Files) → g.may_leave new c → KeepsLog (g.seen mid).commits c.commits) → (end : ℕ) → end ≡ place.end + length text → IsReady g (units ++ unit ∷ []) (record { end = end; long = place.long }) new
       ready_more new done stays keeps end ends =
           let more = units ++ unit ∷ [] in
           let room = ready.room - length text in
-          let there : HasLog (Shows more room) (g.seen mid) = made (Shows units ready.room) (Shows more room) (written place.end text) (λ b shows. inked units unit ready.room place.end text ready.whole is spelt ready.end fits b (written place.end text b) shows refl) (g.seen old) (g.seen mid) ready.seen done in
+          let there : HasLog (Shows more room) (g.seen mid) = made (Shows units ready.room) (Shows more room) (bytes_over place.end text) (λ b shows. inked units unit ready.room place.end text ready.whole is spelt ready.end fits b (bytes_over place.end text b) shows refl) (g.seen old) (g.seen mid) ready.seen done in
           record {
             room = room;
             whole = more_units units unit ready.room place.end text ready.whole is spelt ready.end fits;

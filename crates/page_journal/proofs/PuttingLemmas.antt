@@ -3,10 +3,10 @@ use Rattle.std.proofs.Common.{◌≡◌, ◌≢◌, inl, ⊎_elim, ℕ, zero, su
 use Rattle.std.proofs.Math.Numerals.{add-one}
 use Rattle.std.proofs.lemmas.Bool.{cases_eq, eq-eqb, ne_eqb}
 use Rattle.std.proofs.lemmas.List.Elements.{All-push}
-use Rattle.page_journal.specs.Files.{PageFile, Kept, Files, AscendBelow, SaysRest, IsOf, is_kept, put_back, restored}
+use Rattle.page_journal.specs.Files.{PageFile, SideFile, Files, AscendBelow, SaysRest, IsOf, is_kept, put_back, restored}
 use Rattle.page_journal.specs.Sums.{sum_without}
 use Rattle.page_journal.specs.Steps.{Does, Stays, Fresh, TornAt, begun, kept_at, kept_more, side_shape}
-use Rattle.page_journal.specs.Crash.{IsSealed, LeavesOnly, StandsFor, MayWrite, Gathered, KeepsMarked}
+use Rattle.page_journal.specs.Crash.{IsSealed, LeavesOnly, FilesStandFor, MayWrite, Gathered, KeepsMarked}
 use Rattle.page_journal.specs.declared.disk_state.DiskState.{Ghosts}
 use Rattle.page_journal.specs.declared.side_shape.SideShape.{SideShape}
 use Rattle.page_journal.proofs.RestoreLemmas.{set_past, sum_alike}
@@ -37,7 +37,7 @@ pub tail_torn : (n : ℕ) (d c : Files) → TornAt n d c → c.main.tail ≡ d.m
 tail_torn n d c torn = ap (λ (m : PageFile). m.tail) torn.main
 
 -- a page of the side file may be written over
-pub may_of : (kept : Kept) (side : Option Kept) (i : ℕ) (p : ℕ × List ℕ) → side ≡ Some kept → kept_at side i ≡ Some p → MayWrite kept p.0
+pub may_of : (kept : SideFile) (side : Option SideFile) (i : ℕ) (p : ℕ × List ℕ) → side ≡ Some kept → kept_at side i ≡ Some p → MayWrite kept p.0
 may_of kept side i p is found = inl (kept_in kept.pages i p (ap (λ s. kept_at s i) (sym is) ∙ found))
 
 -- a page more, and which are kept
@@ -59,7 +59,7 @@ kept_last [] n page = ap (λ (b : Bool). b || false) (eq-eqb n n refl)
 kept_last (q ∷ kept) n page = ap (λ (b : Bool). eqb n q.0 || b) (kept_last kept n page) ∙ or_true (eqb n q.0)
 
 -- a side file whose marked pages were gathered, and which says the sum over the others
-pub own_of : (pages : List (List ℕ)) (marks : List Bool) (fresh : Kept) (rest : ℕ) → length marks ≡ length pages → Gathered pages fresh → KeepsMarked marks fresh → AscendBelow 0 (length marks) fresh.pages → fresh.rest ≡ Some rest → rest ≡ sum_without (λ n. get_or marks n false) (length marks) pages → IsOf fresh pages
+pub own_of : (pages : List (List ℕ)) (marks : List Bool) (fresh : SideFile) (rest : ℕ) → length marks ≡ length pages → Gathered pages fresh → KeepsMarked marks fresh → AscendBelow 0 (length marks) fresh.pages → fresh.rest ≡ Some rest → rest ≡ sum_without (λ n. get_or marks n false) (length marks) pages → IsOf fresh pages
 own_of pages marks fresh rest long gathered keeps up says sum =
     let same : length marks ≡ fresh.long = long ∙ sym gathered.long in
     record {
@@ -71,36 +71,36 @@ own_of pages marks fresh rest long gathered keeps up says sum =
     }
 
 -- the side file that was found
-pub side_cases : (side : Option Kept) (found : SideShape) → Some found ≡ side_shape side → (kept : Kept) × (side ≡ Some kept) × (kept.long ≡ found.long) × (length kept.pages ≡ found.kept)
+pub side_cases : (side : Option SideFile) (found : SideShape) → Some found ≡ side_shape side → (kept : SideFile) × (side ≡ Some kept) × (kept.long ≡ found.long) × (length kept.pages ≡ found.kept)
 side_cases None found is = absurd (cc)
 side_cases (Some kept) found is =
     let same : found ≡ record { long = kept.long; kept = length kept.pages; rest = kept.rest } = ap (λ (o : Option SideShape). unwrap_or o found) is in
     (kept, refl, sym (ap (λ (p : SideShape). p.long) same), sym (ap (λ (p : SideShape). p.kept) same))
 
-pub shape_parts : (kept : Kept) (side : SideShape) → side_shape (Some kept) ≡ Some side → (kept.long ≡ side.long) × (length kept.pages ≡ side.kept)
+pub shape_parts : (kept : SideFile) (side : SideShape) → side_shape (Some kept) ≡ Some side → (kept.long ≡ side.long) × (length kept.pages ≡ side.kept)
 shape_parts kept side is =
     let same : record { long = kept.long; kept = length kept.pages; rest = kept.rest } ≡ side = ap (λ (o : Option SideShape). unwrap_or o side) is in
     (ap (λ (p : SideShape). p.long) same, ap (λ (p : SideShape). p.kept) same)
 
 module _ {D : Type 0} (g : Ghosts D) where
   -- so many of the pages are put back over what was there
-  pub record Puts (kept : Kept) (base : List (List ℕ)) (i : ℕ) (old new : D) : Type 0 where
+  pub record Puts (kept : SideFile) (base : List (List ℕ)) (i : ℕ) (old new : D) : Type 0 where
     pub holds : Holds g kept base old new
     pub put : (g.seen new).main.pages ≡ put_back (take i kept.pages) (g.seen old).main.pages
 
-  pub puts_read : (kept : Kept) (base : List (List ℕ)) (i : ℕ) (old mid new : D) → Puts kept base i old mid → Stays g mid new → Puts kept base i old new
+  pub puts_read : (kept : SideFile) (base : List (List ℕ)) (i : ℕ) (old mid new : D) → Puts kept base i old mid → Stays g mid new → Puts kept base i old new
   puts_read kept base i old mid new puts does = record {
     holds = holds_stays g kept base old mid new puts.holds does;
     put = ap (λ (f : Files). f.main.pages) does.seen ∙ puts.put;
   }
 
-  pub puts_change : (kept : Kept) (base : List (List ℕ)) (i n : ℕ) (page : List ℕ) (old mid new : D) → Puts kept base i old mid → IsSealed g kept base new × LeavesOnly g (StandsFor (restored kept base)) mid new → (g.seen new).main.pages ≡ set (g.seen mid).main.pages n page → slice_get kept.pages i ≡ Some (n, page) → Puts kept base (i + 1) old new
+  pub puts_change : (kept : SideFile) (base : List (List ℕ)) (i n : ℕ) (page : List ℕ) (old mid new : D) → Puts kept base i old mid → IsSealed g kept base new × LeavesOnly g (FilesStandFor (restored kept base)) mid new → (g.seen new).main.pages ≡ set (g.seen mid).main.pages n page → slice_get kept.pages i ≡ Some (n, page) → Puts kept base (i + 1) old new
   puts_change kept base i n page old mid new puts more is there = record {
     holds = holds_then g kept base old mid new puts.holds more.0 more.1;
     put = is ∙ ap (λ m. set m n page) puts.put ∙ sym (put_back_more kept.pages i (n, page) (g.seen old).main.pages there) ∙ ap (λ k. put_back (take k kept.pages) (g.seen old).main.pages) (sym (add-one i));
   }
 
-  pub puts_skip : (kept : Kept) (base : List (List ℕ)) (i n : ℕ) (page : List ℕ) (old mid : D) → Puts kept base i old mid → length (g.seen mid).main.pages ≤ n → slice_get kept.pages i ≡ Some (n, page) → Puts kept base (i + 1) old mid
+  pub puts_skip : (kept : SideFile) (base : List (List ℕ)) (i n : ℕ) (page : List ℕ) (old mid : D) → Puts kept base i old mid → length (g.seen mid).main.pages ≤ n → slice_get kept.pages i ≡ Some (n, page) → Puts kept base (i + 1) old mid
   puts_skip kept base i n page old mid puts past there = record {
     holds = puts.holds;
     put = sym (set_past (g.seen mid).main.pages n page past) ∙ ap (λ m. set m n page) puts.put ∙ sym (put_back_more kept.pages i (n, page) (g.seen old).main.pages there) ∙ ap (λ k. put_back (take k kept.pages) (g.seen old).main.pages) (sym (add-one i));
@@ -118,11 +118,11 @@ module _ {D : Type 0} (g : Ghosts D) where
   pub gathers_begin : (main : PageFile) (marks : List Bool) (rest : ℕ) (old : D) → Quiet g main old old → (g.seen old).fresh ≡ begun (length marks) rest → length marks ≡ length main.pages → Gathers main marks 0 old old
   gathers_begin main marks rest old quiet fresh long = record {
     quiet = quiet;
-    kept = subst (λ (f : Kept). Gathered main.pages f) (sym fresh) (record { long = long; pages_there = λ k d below. absurd (omega (arith, below)) });
+    kept = subst (λ (f : SideFile). Gathered main.pages f) (sym fresh) (record { long = long; pages_there = λ k d below. absurd (omega (arith, below)) });
     rest = refl;
     below = λ n below. absurd (omega (arith, below));
-    none = λ n past. ap (λ (f : Kept). is_kept f.pages n) fresh;
-    up = subst (λ (f : Kept). AscendBelow 0 0 f.pages) (sym fresh) tt;
+    none = λ n past. ap (λ (f : SideFile). is_kept f.pages n) fresh;
+    up = subst (λ (f : SideFile). AscendBelow 0 0 f.pages) (sym fresh) tt;
   }
 
   pub gathers_read : (main : PageFile) (marks : List Bool) (i : ℕ) (old mid new : D) → Gathers main marks i old mid → Stays g mid new → Gathers main marks i old new
@@ -130,11 +130,11 @@ module _ {D : Type 0} (g : Ghosts D) where
       let same : (g.seen mid).fresh ≡ (g.seen new).fresh = sym (ap (λ (f : Files). f.fresh) does.seen) in
       record {
         quiet = quiet_stays g main old mid new had.quiet does;
-        kept = subst (λ (f : Kept). Gathered main.pages f) same had.kept;
-        rest = ap (λ (f : Kept). f.rest) (sym same) ∙ had.rest;
-        below = λ n inside. ap (λ (f : Kept). is_kept f.pages n) (sym same) ∙ had.below n inside;
-        none = λ n past. ap (λ (f : Kept). is_kept f.pages n) (sym same) ∙ had.none n past;
-        up = subst (λ (f : Kept). AscendBelow 0 i f.pages) same had.up;
+        kept = subst (λ (f : SideFile). Gathered main.pages f) same had.kept;
+        rest = ap (λ (f : SideFile). f.rest) (sym same) ∙ had.rest;
+        below = λ n inside. ap (λ (f : SideFile). is_kept f.pages n) (sym same) ∙ had.below n inside;
+        none = λ n past. ap (λ (f : SideFile). is_kept f.pages n) (sym same) ∙ had.none n past;
+        up = subst (λ (f : SideFile). AscendBelow 0 i f.pages) same had.up;
       }
 
   pub gathers_skip : (main : PageFile) (marks : List Bool) (i : ℕ) (old new : D) → Gathers main marks i old new → get_or marks i false ≡ false → Gathers main marks (i + 1) old new
@@ -154,12 +154,12 @@ module _ {D : Type 0} (g : Ghosts D) where
       let was = (g.seen mid).fresh.pages in
       record {
         quiet = quiet_fresh g main old mid new had.quiet keeps;
-        kept = subst (λ (f : Kept). Gathered main.pages f) (sym is) (record { long = had.kept.long; pages_there = All-push (λ (x : ℕ × List ℕ). slice_get main.pages x.0 ≡ Some x.1) was (i, page) had.kept.pages_there there });
-        rest = ap (λ (f : Kept). f.rest) is ∙ had.rest;
-        below = λ n inside. ap (λ (f : Kept). is_kept f.pages n) is ∙ ⊎_elim
+        kept = subst (λ (f : SideFile). Gathered main.pages f) (sym is) (record { long = had.kept.long; pages_there = All-push (λ (x : ℕ × List ℕ). slice_get main.pages x.0 ≡ Some x.1) was (i, page) had.kept.pages_there there });
+        rest = ap (λ (f : SideFile). f.rest) is ∙ had.rest;
+        below = λ n inside. ap (λ (f : SideFile). is_kept f.pages n) is ∙ ⊎_elim
             (λ (here : n ≡ i). ap (λ m. is_kept (was ++ (i, page) ∷ []) m) here ∙ kept_last was i page ∙ sym marked ∙ ap (λ m. get_or marks m false) (sym here))
             (λ (other : n ≢ i). kept_other was i page n other ∙ had.below n (omega (arith, inside, other)))
             (cases_eq n i);
-        none = λ n past. ap (λ (f : Kept). is_kept f.pages n) is ∙ kept_other was i page n (λ here. omega (arith, here, past)) ∙ had.none n (omega (arith, past));
-        up = subst (λ (f : Kept). AscendBelow 0 (i + 1) f.pages) (sym is) (subst (λ m. AscendBelow 0 m (was ++ (i, page) ∷ [])) (sym (add-one i)) (ascend_push 0 i was page had.up (omega arith)));
+        none = λ n past. ap (λ (f : SideFile). is_kept f.pages n) is ∙ kept_other was i page n (λ here. omega (arith, here, past)) ∙ had.none n (omega (arith, past));
+        up = subst (λ (f : SideFile). AscendBelow 0 (i + 1) f.pages) (sym is) (subst (λ m. AscendBelow 0 m (was ++ (i, page) ∷ [])) (sym (add-one i)) (ascend_push 0 i was page had.up (omega arith)));
       }

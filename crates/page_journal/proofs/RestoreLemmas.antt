@@ -3,7 +3,7 @@ use Rattle.std.proofs.Common.{◌≡◌, ◌≢◌, ◌⊎◌, inl, inr, ⊎_eli
 use Rattle.std.proofs.lemmas.List.{length-take-le, take-take, take_all, get_or_append_left}
 use Rattle.std.proofs.lemmas.Option.{slice_get-get_or, slice_get_past}
 use Rattle.std.proofs.lemmas.Bool.{cases_lt, cases_eq, false≢true, ne_eqb}
-use Rattle.page_journal.specs.Files.{PageFile, Kept, IsOf, SaysRest, is_kept, put_back, restored, Agree}
+use Rattle.page_journal.specs.Files.{PageFile, SideFile, IsOf, SaysRest, is_kept, put_back, restored, Agree}
 use Rattle.page_journal.specs.Sums.{sum_on, sum_without}
 
 pub kept_beside : (old : List (List ℕ)) (n k : ℕ) (page : List ℕ) → k ≢ n → slice_get (set old n page) k ≡ slice_get old k
@@ -52,7 +52,7 @@ put_back_same (p ∷ kept) a b long same =
         kept_beside b p.0 n p.1 other ∙ same n below (beside_kept n p.0 (is_kept kept n) other none) ∙ sym (kept_beside a p.0 n p.1 other)
 
 -- so what is restored depends on no kept page
-pub restores_same : (kept : Kept) (a b : List (List ℕ)) → Agree kept a b → restored kept b ≡ restored kept a
+pub restores_same : (kept : SideFile) (a b : List (List ℕ)) → Agree kept a b → restored kept b ≡ restored kept a
 restores_same kept a b agree =
     let la = length-take-le kept.long a agree.first_long in
     let lb = length-take-le kept.long b agree.long in
@@ -81,17 +81,17 @@ put_back_there : (kept : List (ℕ × List ℕ)) (pages : List (List ℕ)) → A
 put_back_there [] pages all = refl
 put_back_there (p ∷ kept) pages all = ap (λ m. put_back kept m) (set_there pages p.0 p.1 (all zero p (omega arith))) ∙ put_back_there kept pages (λ k d below. all (suc k) d (omega (arith, below)))
 
-pub restored_itself : (main : PageFile) (kept : Kept) → main.tail ≡ 0 → kept.long ≡ length main.pages → All (λ (p : ℕ × List ℕ). slice_get main.pages p.0 ≡ Some p.1) kept.pages → restored kept main.pages ≡ main
+pub restored_itself : (main : PageFile) (kept : SideFile) → main.tail ≡ 0 → kept.long ≡ length main.pages → All (λ (p : ℕ × List ℕ). slice_get main.pages p.0 ≡ Some p.1) kept.pages → restored kept main.pages ≡ main
 restored_itself main kept no_tail long there =
     let whole = take_all kept.long main.pages (omega (arith, long)) in
     let same : put_back kept.pages (take kept.long main.pages) ≡ main.pages = ap (λ m. put_back kept.pages m) whole ∙ put_back_there kept.pages main.pages there in
     λ i. record { pages = same i; tail = sym no_tail i }
 
-pub agree_itself : (kept : Kept) (a : List (List ℕ)) → kept.long ≤ length a → Agree kept a a
+pub agree_itself : (kept : SideFile) (a : List (List ℕ)) → kept.long ≤ length a → Agree kept a a
 agree_itself kept a long = record { first_long = long; long = long; same = λ n below none. refl }
 
 -- a page written that is kept, or past the old end
-pub agree_put : (kept : Kept) (a b c : List (List ℕ)) (n : ℕ) (page : List ℕ) → Agree kept a b → c ≡ set b n page → (is_kept kept.pages n ≡ true) ⊎ (kept.long ≤ n) → Agree kept a c
+pub agree_put : (kept : SideFile) (a b c : List (List ℕ)) (n : ℕ) (page : List ℕ) → Agree kept a b → c ≡ set b n page → (is_kept kept.pages n ≡ true) ⊎ (kept.long ≤ n) → Agree kept a c
 agree_put kept a b c n page agree is may = record {
   first_long = agree.first_long;
   long = omega (arith, agree.long, ap (λ (l : List (List ℕ)). length l) is, length-set b n page);
@@ -99,7 +99,7 @@ agree_put kept a b c n page agree is may = record {
       ap (λ (l : List (List ℕ)). slice_get l k) is ∙ kept_beside b n k page (λ here. ⊎_elim (λ is_in. false≢true (sym none ∙ ap (is_kept kept.pages) here ∙ is_in)) (λ past. omega (arith, past, here, below)) may) ∙ agree.same k below none;
 }
 
-pub agree_more : (kept : Kept) (a b c more : List (List ℕ)) → Agree kept a b → c ≡ b ++ more → Agree kept a c
+pub agree_more : (kept : SideFile) (a b c more : List (List ℕ)) → Agree kept a b → c ≡ b ++ more → Agree kept a c
 agree_more kept a b c more agree is = record {
   first_long = agree.first_long;
   long = omega (arith, agree.long, ap (λ (l : List (List ℕ)). length l) is, length-append b more);
@@ -109,7 +109,7 @@ agree_more kept a b c more agree is = record {
     kept_left : (k : ℕ) → k < length b → slice_get (b ++ more) k ≡ slice_get b k
     kept_left k below = slice_get-get_or (b ++ more) k [] (omega (arith, below, length-append b more)) ∙ ap (λ (x : List ℕ). Some x) (get_or_append_left b more [] k below) ∙ sym (slice_get-get_or b k [] below)
 
-pub agree_cut : (kept : Kept) (a b c : List (List ℕ)) (to : ℕ) → Agree kept a b → kept.long ≤ to → c ≡ take to b → Agree kept a c
+pub agree_cut : (kept : SideFile) (a b c : List (List ℕ)) (to : ℕ) → Agree kept a b → kept.long ≤ to → c ≡ take to b → Agree kept a c
 agree_cut kept a b c to agree least is = at (cases_lt to (length b))
   where
     at : (to < length b) ⊎ (length b ≤ to) → Agree kept a c
@@ -155,7 +155,7 @@ pub sum_out : (out : ℕ → Bool) (n : ℕ) (pages : List (List ℕ)) → out n
 sum_out out n pages is = ap (λ (o : Bool). cond o (sum_without out n pages) (sum_on (sum_without out n pages) (get_or pages n []))) is
 
 -- a side file of a file is one of each that is the same but for the pages that it keeps
-pub of_agree : (kept : Kept) (a b : List (List ℕ)) → Agree kept a b → IsOf kept a → IsOf kept b
+pub of_agree : (kept : SideFile) (a b : List (List ℕ)) → Agree kept a b → IsOf kept a → IsOf kept b
 of_agree kept a b agree own = record { long = agree.long; rest = says kept.rest own.rest }
   where
     got : (k : ℕ) → k < kept.long → is_kept kept.pages k ≡ false → get_or b k [] ≡ get_or a k []

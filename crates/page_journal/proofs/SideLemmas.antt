@@ -6,9 +6,9 @@ use Rattle.byteorder.specs.Endian.{big_bytes, big_number}
 use Rattle.byteorder.specs.Numbers.{big_number-reads_back}
 use Rattle.rec_types.specs.Widths.{page_width}
 use Rattle.page_store.specs.FreeNumbers.{greatest_page_count}
-use Rattle.page_journal.specs.Files.{Kept}
+use Rattle.page_journal.specs.Files.{SideFile}
 use Rattle.page_journal.specs.Sums.{sum_on}
-use Rattle.page_journal.specs.SideBytes.{sum_pages, front_bytes, side_header, header_width, IsSum, side_sum, side_bytes, entry_bytes, entries_bytes, Ascend, BeginsWithPage0, IsSideFile, read_entries, read_side, Tally, first_tally, tally_more, tally_header, tally_on, MayComeAll, IsTaken}
+use Rattle.page_journal.specs.SideBytes.{sum_pages, front_bytes, side_header, header_width, IsSum, side_sum, side_bytes, entry_bytes, entries_bytes, PagesAscend, BeginsWithPage0, IsSideFile, read_entries, read_side, Tally, first_tally, tally_more, tally_header, tally_on, MayComeAll, TakesEntries}
 
 -- an entry that was written part by part
 pub entry_put : (n : ℕ) (blank part buf page : List ℕ) → length blank ≡ 4100 → length part ≡ 4 → buf ≡ big_bytes 4 n ++ drop 4 part → put_mid 4 4096 (buf ++ drop 4 blank) page ≡ entry_bytes n page
@@ -21,7 +21,7 @@ entry_put n blank part buf page long four is =
     ∙ ap (λ p. big_bytes 4 n ++ p) (append-nil page)
 
 -- the entries of a side file, read again
-entries_read : (least end : ℕ) (pages : List (ℕ × List ℕ)) → end ≤ greatest_page_count → Ascend least end pages → read_entries (length pages) (entries_bytes pages) ≡ pages
+entries_read : (least end : ℕ) (pages : List (ℕ × List ℕ)) → end ≤ greatest_page_count → PagesAscend least end pages → read_entries (length pages) (entries_bytes pages) ≡ pages
 entries_read least end [] most up = refl
 entries_read least end (p ∷ pages) most up =
     let number : big_number 4 (entry_bytes p.0 p.1 ++ entries_bytes pages) ≡ p.0 =
@@ -34,12 +34,12 @@ entries_read least end (p ∷ pages) most up =
     ∙ ap (λ ps. p ∷ ps) (entries_read (suc p.0) end pages most up.3)
 
 -- there are no more of them than numbers
-entries_few : (least end : ℕ) (pages : List (ℕ × List ℕ)) → Ascend least end pages → least ≤ end → length pages + least ≤ end
+entries_few : (least end : ℕ) (pages : List (ℕ × List ℕ)) → PagesAscend least end pages → least ≤ end → length pages + least ≤ end
 entries_few least end [] up le = omega (arith, le)
 entries_few least end (p ∷ pages) up le = omega (arith, up.0, entries_few (suc p.0) end pages up.3 (omega (arith, up.1)))
 
 -- what is read of a side file is what it was made of
-pub side_read : (kept : Kept) → IsSideFile kept → read_side (side_bytes kept) ≡ kept
+pub side_read : (kept : SideFile) → IsSideFile kept → read_side (side_bytes kept) ≡ kept
 side_read kept is =
     let few = entries_few 0 kept.long kept.pages is.ascend (omega arith) in
     at kept.rest is.rest kept.long kept.pages (side_sum kept) is.most (omega (arith, is.most, few)) (entries_read 0 kept.long kept.pages is.most is.ascend)
@@ -68,23 +68,23 @@ tally_all t (p ∷ pages) =
     (more.0, more.1 ∙ omega arith, more.2, more.3)
 
 -- its header is that of the side file
-header_all : (kept : Kept) → tally_header (tally_on (first_tally kept.long kept.rest) kept.pages) ≡ side_header kept.long (length kept.pages) kept.rest (side_sum kept)
+header_all : (kept : SideFile) → tally_header (tally_on (first_tally kept.long kept.rest) kept.pages) ≡ side_header kept.long (length kept.pages) kept.rest (side_sum kept)
 header_all kept =
     let all = tally_all (first_tally kept.long kept.rest) kept.pages in
     let count : (tally_on (first_tally kept.long kept.rest) kept.pages).kept ≡ length kept.pages = omega (arith, all.1) in
     λ i. side_header (all.0 i) (count i) (all.3 i) (sum_on (all.2 i) (front_bytes (all.0 i) (count i) (all.3 i)))
 
-may_come_all : (t : Tally) (pages : List (ℕ × List ℕ)) → (t.kept ≡ 0 → BeginsWithPage0 pages) → Ascend t.least t.long pages → MayComeAll t pages
+may_come_all : (t : Tally) (pages : List (ℕ × List ℕ)) → (t.kept ≡ 0 → BeginsWithPage0 pages) → PagesAscend t.least t.long pages → MayComeAll t pages
 may_come_all t [] first up = tt
 may_come_all t (p ∷ pages) first up = (
   record { least = up.0; below = up.1; first = first },
   up.2,
-  may_come_all (tally_more t p.0 (entry_bytes p.0 p.1)) pages (λ none. absurd (omega (arith, none))) (subst (λ n. Ascend n t.long pages) (omega arith) up.3),
+  may_come_all (tally_more t p.0 (entry_bytes p.0 p.1)) pages (λ none. absurd (omega (arith, none))) (subst (λ n. PagesAscend n t.long pages) (omega arith) up.3),
 )
 
-ascend_all : (t : Tally) (pages : List (ℕ × List ℕ)) → MayComeAll t pages → Ascend t.least t.long pages
+ascend_all : (t : Tally) (pages : List (ℕ × List ℕ)) → MayComeAll t pages → PagesAscend t.least t.long pages
 ascend_all t [] come = tt
-ascend_all t (p ∷ pages) come = (come.0.least, come.0.below, come.1, subst (λ n. Ascend n t.long pages) (omega arith) (ascend_all (tally_more t p.0 (entry_bytes p.0 p.1)) pages come.2))
+ascend_all t (p ∷ pages) come = (come.0.least, come.0.below, come.1, subst (λ n. PagesAscend n t.long pages) (omega arith) (ascend_all (tally_more t p.0 (entry_bytes p.0 p.1)) pages come.2))
 
 some_entry : (long : ℕ) (rest : Option ℕ) (pages : List (ℕ × List ℕ)) → MayComeAll (first_tally long rest) pages → 1 ≤ length pages → BeginsWithPage0 pages
 some_entry long rest [] come some = absurd (omega (arith, some))
@@ -95,7 +95,7 @@ page_0_some [] none = absurd none
 page_0_some (p ∷ pages) first = omega arith
 
 -- a side file is taken
-pub side_taken : (kept : Kept) → IsSideFile kept → IsTaken kept (side_bytes kept)
+pub side_taken : (kept : SideFile) → IsSideFile kept → TakesEntries kept (side_bytes kept)
 side_taken kept is =
     let all = tally_all (first_tally kept.long kept.rest) kept.pages in record {
       rest = is.rest;
@@ -108,7 +108,7 @@ side_taken kept is =
     }
 
 -- and nothing else
-pub only_taken : (kept : Kept) (bytes : List ℕ) → IsTaken kept bytes → IsSideFile kept × (bytes ≡ side_bytes kept)
+pub only_taken : (kept : SideFile) (bytes : List ℕ) → TakesEntries kept bytes → IsSideFile kept × (bytes ≡ side_bytes kept)
 only_taken kept bytes is =
     let all = tally_all (first_tally kept.long kept.rest) kept.pages in (
       record {

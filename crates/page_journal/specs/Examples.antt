@@ -1,7 +1,7 @@
 -- Files and calls that the laws show things by.
 use Rattle.std.specs.Prelude.{ℕ, List, [], ◌∷◌, None, Some, Vec}
 use Rattle.std.specs.declared.alloc.Global.{Global}
-use Rattle.page_journal.specs.Files.{PageFile, Kept, Files, no_commits}
+use Rattle.page_journal.specs.Files.{PageFile, SideFile, Files, no_commits}
 use Rattle.page_journal.specs.Steps.{nothing_kept}
 use Rattle.page_journal.specs.Sums.{sum_start, sum_on}
 use Rattle.page_store.specs.declared.step.Step.{Step}
@@ -15,14 +15,14 @@ abbrev pub pages_of_two : ℕ → ℕ → PageFile
 pages_of_two a b = record { pages = (a ∷ []) ∷ (b ∷ []) ∷ []; tail = 0 }
 
 -- it, with no side file
-abbrev pub alone : PageFile → Files
-alone main = record { main = main; fresh = nothing_kept 0; side = None; commits = no_commits }
+abbrev pub without_side_file : PageFile → Files
+without_side_file main = record { main = main; fresh = nothing_kept 0; side = None; commits = no_commits }
 
 abbrev pub old_file : PageFile
 old_file = pages_of_two 1 2
 
 -- page 1 as it was
-abbrev pub page_1_kept : Kept
+abbrev pub page_1_kept : SideFile
 page_1_kept = record { long = 2; rest = None; pages = (1, 2 ∷ []) ∷ [] }
 
 -- a page of four bytes, and a file of two such
@@ -33,12 +33,12 @@ abbrev pub words : ℕ → ℕ → List (List ℕ)
 words a b = word a ∷ word b ∷ []
 
 -- its page 1 as it was, and the sum over its page 0
-abbrev pub word_kept : Kept
+abbrev pub word_kept : SideFile
 word_kept = record { long = 2; rest = Some (sum_on sum_start (word 1)); pages = (1, word 2) ∷ [] }
 
 -- page 1 written over, and a page added
-abbrev pub page_1_written : List (List ℕ)
-page_1_written = (1 ∷ []) ∷ (9 ∷ []) ∷ (8 ∷ []) ∷ []
+abbrev pub page_1_written_over : List (List ℕ)
+page_1_written_over = (1 ∷ []) ∷ (9 ∷ []) ∷ (8 ∷ []) ∷ []
 
 -- page 0 written over, too
 abbrev pub both_written : List (List ℕ)

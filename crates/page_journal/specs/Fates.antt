@@ -2,7 +2,7 @@
 use Rattle.std.specs.Prelude.{◌≡◌, ℕ, ◌-◌, List, [], ◌++◌, None, option_map, length, take, drop, replicate, is_some, ⊤}
 use Rattle.rec_types.specs.Widths.{page_width}
 use Rattle.page_journal.specs.Files.{CommitFiles, Files}
-use Rattle.page_journal.specs.Steps.{nothing_kept, written, KeepsLog}
+use Rattle.page_journal.specs.Steps.{nothing_kept, bytes_over, KeepsLog}
 use Rattle.page_journal.specs.History.{done}
 use Rattle.page_journal.specs.declared.commit_call.CommitCall.{CommitCall}
 use Rattle.page_journal.specs.declared.commit_call.CommitCall.TheVariants as calls
@@ -30,7 +30,7 @@ commits_torn calls.SyncFresh f = f
 commits_torn calls.Name f = f
 commits_torn calls.Remove f = f
 commits_torn (calls.Lengthen at n) f = f
-commits_torn (calls.Write at bytes) f = record f { log = option_map (written at (front_of bytes.items)) f.log }
+commits_torn (calls.Write at bytes) f = record f { log = option_map (bytes_over at (front_of bytes.items)) f.log }
 commits_torn calls.Sync f = f
 
 -- where the device keeps a log, its bytes are those that are seen
@@ -58,24 +58,24 @@ torn SyncNames f = f
 torn (Commits call) f = record f { commits = commits_torn call f.commits }
 
 -- a sync makes its part what is seen; that of the names doesn't say what a side file has
-abbrev pub kept_by : DiskCall → Files → Files → Files
-kept_by (Write n page) seen f = f
-kept_by (Grow n) seen f = f
-kept_by (Cut n) seen f = f
-kept_by Sync seen f = record f { main = seen.main }
-kept_by (Start long rest) seen f = f
-kept_by (Keep n page) seen f = f
-kept_by SyncFresh seen f = record f { fresh = seen.fresh }
-kept_by Name seen f = f
-kept_by Remove seen f = f
-kept_by SyncNames seen f = f
-kept_by (Commits call) seen f = f
+abbrev pub synced_by : DiskCall → Files → Files → Files
+synced_by (Write n page) seen f = f
+synced_by (Grow n) seen f = f
+synced_by (Cut n) seen f = f
+synced_by Sync seen f = record f { main = seen.main }
+synced_by (Start long rest) seen f = f
+synced_by (Keep n page) seen f = f
+synced_by SyncFresh seen f = record f { fresh = seen.fresh }
+synced_by Name seen f = f
+synced_by Remove seen f = f
+synced_by SyncNames seen f = f
+synced_by (Commits call) seen f = f
 
 -- what a crash leaves behind a call of that fate, where it would have left these files before it
 abbrev pub fated : DiskCall → Fate → Files → Files → Files
-fated call Done seen f = kept_by call seen (done call f)
-fated call Lost seen f = kept_by call seen f
-fated call Torn seen f = kept_by call seen (torn call f)
+fated call Done seen f = synced_by call seen (done call f)
+fated call Lost seen f = synced_by call seen f
+fated call Torn seen f = synced_by call seen (torn call f)
 
 -- where the device keeps whether a file has a name, one has it after a crash where one is seen to
 abbrev pub NamesAgree : DiskCall → Files → Files → Type 0

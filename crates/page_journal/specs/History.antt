@@ -6,7 +6,7 @@ use Rattle.rec_types.specs.Table.{counted}
 use Rattle.page_store.specs.Blank.{blanks}
 use Rattle.commit_paper.specs.Steps.{Lengthens, Inks}
 use Rattle.page_journal.specs.Files.{CommitFiles, Files}
-use Rattle.page_journal.specs.Steps.{nothing_kept, begun, kept_more, written, zeroed, TornAt, GrowsUpTo, CutsTo, Fresh, Names, Removes, FreshLog, NamesLog, RemovesLog, ChangesLog, KeepsLog, InCommits}
+use Rattle.page_journal.specs.Steps.{nothing_kept, begun, kept_more, bytes_over, zeroed, TornAt, GrowsUpTo, CutsTo, Fresh, Names, RemovesSide, FreshLog, NamesLog, RemovesLog, ChangesLog, KeepsLog, InCommits}
 use Rattle.page_journal.specs.declared.commit_call.CommitCall.{CommitCall}
 use Rattle.page_journal.specs.declared.commit_call.CommitCall.TheVariants as calls
 use Rattle.page_journal.specs.declared.disk_call.DiskCall.{DiskCall}
@@ -19,7 +19,7 @@ commits_done calls.SyncFresh f = f
 commits_done calls.Name f = record { fresh = []; log = Some f.fresh }
 commits_done calls.Remove f = record f { log = None }
 commits_done (calls.Lengthen at n) f = record f { log = option_map (zeroed at n) f.log }
-commits_done (calls.Write at bytes) f = record f { log = option_map (written at bytes.items) f.log }
+commits_done (calls.Write at bytes) f = record f { log = option_map (bytes_over at bytes.items) f.log }
 commits_done calls.Sync f = f
 
 -- what it may lead to, as of the other calls
@@ -56,7 +56,7 @@ leads (Start long rest) seen d c = Fresh d c
 leads (Keep n page) seen d c = Fresh d c
 leads SyncFresh seen d c = (c ≡ d) × (c.fresh ≡ seen.fresh)
 leads Name seen d c = Names d c
-leads Remove seen d c = Removes d c
+leads Remove seen d c = RemovesSide d c
 leads SyncNames seen d c = (c ≡ d) × (is_some c.side ≡ is_some seen.side) × (is_some c.commits.log ≡ is_some seen.commits.log)
 leads (Commits call) seen d c = InCommits (commits_lead call seen.commits) d c
 

@@ -10,8 +10,8 @@ use Rattle.page_store.specs.Opening.{Opening}
 use Rattle.page_store.specs.StoreFaults.{is_failed}
 use Rattle.page_store.specs.declared.store_fault.StoreFault.{StoreFault}
 use Rattle.page_store.specs.declared.store_fault.StoreFault.TheVariants.{Failed, Memory}
-use Rattle.page_journal.specs.Files.{PageFile, Kept, Files, restored, recovered}
-use Rattle.page_journal.specs.Crash.{IsSettled, IsSealed, StandsFor, MayWrite}
+use Rattle.page_journal.specs.Files.{PageFile, SideFile, Files, restored, recovered}
+use Rattle.page_journal.specs.Crash.{IsSettled, IsSealed, FilesStandFor, MayWrite}
 use Rattle.page_journal.specs.LoggedStores.{coded_place}
 use Rattle.page_journal.specs.declared.disk_state.DiskState.{Ghosts}
 use Rattle.page_journal.specs.declared.log_place.LogPlace.{LogPlace}
@@ -35,16 +35,16 @@ state_code Unsealed = (false, false)
 state_code Sealed = (true, false)
 state_code Stopped = (false, true)
 
-abbrev pub state_of : Bool × Bool → SealState
-state_of p = cond p.0 Sealed (cond p.1 Stopped Unsealed)
+abbrev pub seal_state_of : Bool × Bool → SealState
+seal_state_of p = cond p.0 Sealed (cond p.1 Stopped Unsealed)
 
-pub state_back : (s : SealState) → state_of (state_code s) ≡ s
+pub state_back : (s : SealState) → seal_state_of (state_code s) ≡ s
 state_back Unsealed = refl
 state_back Sealed = refl
 state_back Stopped = refl
 
 abbrev pub coded_state : Coded SealState
-coded_state = code_by (Bool × Bool) (coded× coded_bool coded_bool) state_code state_of state_back
+coded_state = code_by (Bool × Bool) (coded× coded_bool coded_bool) state_code seal_state_of state_back
 
 abbrev pub coded_kept_stored : {D : Type 0} → Coded D → Coded (KeptStored D)
 coded_kept_stored {D} d = code_by (D × (List Bool × (SealState × (ℕ × (ℕ × (ℕ × (ℕ × (Option LogPlace × List ℕ)))))))) (coded× d (coded× (coded_list coded_bool) (coded× coded_state (coded× coded_ℕ (coded× coded_ℕ (coded× coded_ℕ (coded× coded_ℕ (coded× (coded_option coded_place) (coded_list coded_ℕ))))))))) (λ s. (s.disk, (s.kept, (s.state, (s.reads, (s.shapes, (s.writes, (s.refusals, (s.log, s.doubt))))))))) (λ p. record { disk = p.0; kept = p.1.0; state = p.1.1.0; reads = p.1.1.1.0; shapes = p.1.1.1.1.0; writes = p.1.1.1.1.1.0; refusals = p.1.1.1.1.1.1.0; log = p.1.1.1.1.1.1.1.0; doubt = p.1.1.1.1.1.1.1.1 }) (λ _. refl)
@@ -61,13 +61,13 @@ opened_over files log commits doubt = record {
 }
 
 -- whether page n was kept, or is past the old end
-abbrev pub is_open : List Bool → ℕ → Bool
-is_open kept n = slice_index_or kept n true
+abbrev pub is_writable : List Bool → ℕ → Bool
+is_writable kept n = slice_index_or kept n true
 
 -- whether page n may be written over
 abbrev pub may_write_in : SealState → List Bool → ℕ → Bool
 may_write_in Unsealed kept n = false
-may_write_in Sealed kept n = is_open kept n
+may_write_in Sealed kept n = is_writable kept n
 may_write_in Stopped kept n = false
 
 -- which pages the store lets be written over, and how many calls it has refused
@@ -86,23 +86,23 @@ pub record CanBeSealed (main : PageFile) : Type 0 where
   pub most : length main.pages ≤ greatest_page_count
 
 -- it is sealed, and stands for the old file
-pub record IsHeld {D : Type 0} (g : Ghosts D) (old : PageFile) (flags : List Bool) (disk : D) : Type 0 where
-  pub kept : Kept
+pub record HoldsOld {D : Type 0} (g : Ghosts D) (old : PageFile) (flags : List Bool) (disk : D) : Type 0 where
+  pub kept : SideFile
   pub base : List (List ℕ)
   pub sealed : IsSealed g kept base disk
-  pub flags_kept : (n : ℕ) → is_open flags n ≡ true → MayWrite kept n
+  pub flags_kept : (n : ℕ) → is_writable flags n ≡ true → MayWrite kept n
   pub began : restored kept base ≡ old
 
 -- what holds of the disk in each state
 abbrev pub IsSo : {D : Type 0} → Ghosts D → PageFile → SealState → List Bool → D → Type 0
 IsSo g old Unsealed flags disk = IsSettled g old disk
-IsSo g old Sealed flags disk = IsHeld g old flags disk
+IsSo g old Sealed flags disk = HoldsOld g old flags disk
 IsSo g old Stopped flags disk = (g.seen disk).main ≡ old
 
 -- and each crash since the disk was opened leaves the old file
 pub record IsGuarded {D : Type 0} (g : Ghosts D) (old : PageFile) (state : SealState) (flags : List Bool) (disk : D) : Type 0 where
   pub so : IsSo g old state flags disk
-  pub time : (c : Files) → g.left_since disk 0 c → StandsFor old c
+  pub time : (c : Files) → g.left_since disk 0 c → FilesStandFor old c
 
 -- the file that there was when the disk was opened
 abbrev pub old_file_of : {D : Type 0} → Ghosts D → D → PageFile

@@ -3,8 +3,8 @@ use Rattle.std.specs.Prelude.{◌≡◌, ◌≢◌, ◌⊎◌, refl, ℕ, ◌≤
 use Rattle.std.specs.Coded.{Coded, code_by, coded×, coded_ℕ}
 use Rattle.commit_paper.specs.Text.{units_of, unit_text, IsUnit, AreUnits}
 use Rattle.page_journal.specs.Files.{PageFile, Files}
-use Rattle.page_journal.specs.Crash.{StandsFor}
-use Rattle.page_journal.specs.Logging.{Says, IsReady, Stands}
+use Rattle.page_journal.specs.Crash.{FilesStandFor}
+use Rattle.page_journal.specs.Logging.{Says, IsReady, StandsInLog}
 use Rattle.page_journal.specs.declared.disk_state.DiskState.{Ghosts}
 use Rattle.page_journal.specs.declared.log_place.LogPlace.{LogPlace}
 use Rattle.page_journal.specs.declared.seal_state.SealState.{SealState}
@@ -64,7 +64,7 @@ pub record HoldsLog {D : Type 0} (g : Ghosts D) (place : LogPlace) (doubt : List
   pub units : List (List (List ℕ))
   pub some : units ≢ []
   pub whole : AreUnits units
-  pub stand : Stands units place (g.seen disk)
+  pub stand : StandsInLog units place (g.seen disk)
   pub now : (c : Files) → g.may_leave disk c → SaysAll units doubt c
   pub ready : doubt ≡ [] → IsReady g units place disk
 
@@ -86,4 +86,4 @@ DoubtStops Stopped doubt = Unit {0}
 -- A crash leaves the old file, and of the commits what it may; or the new file, and all of them.
 abbrev pub LeavesWithCommits : Option LogPlace → Files → List (List (List ℕ)) → List ℕ → PageFile → PageFile → Files → Type 0
 LeavesWithCommits log began units doubt old new c =
-    (StandsFor old c × MayFind log began units doubt c) ⊎ (StandsFor new c × FindsAll log began units c)
+    (FilesStandFor old c × MayFind log began units doubt c) ⊎ (FilesStandFor new c × FindsAll log began units c)

@@ -11,8 +11,8 @@ abbrev pub HasLog : (List ℕ → Type 0) → Files → Type 0
 HasLog P f = (bytes : List ℕ) × (f.commits.log ≡ Some bytes) × P bytes
 
 -- these units stand in it before a place
-abbrev pub Stands : List (List (List ℕ)) → LogPlace → Files → Type 0
-Stands units place f = HasLog (λ bytes. take place.end bytes ≡ log_text units) f
+abbrev pub StandsInLog : List (List (List ℕ)) → LogPlace → Files → Type 0
+StandsInLog units place f = HasLog (λ bytes. take place.end bytes ≡ log_text units) f
 
 -- it is that of an outcome of a crash then, or there is none
 abbrev pub HasLogOf : {D : Type 0} → Ghosts D → D → Files → Type 0

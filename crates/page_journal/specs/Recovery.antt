@@ -12,9 +12,9 @@ is_device_fault Device = true
 is_device_fault BadJournal = false
 
 -- whether a call of the disk failed
-abbrev pub is_device : {X : Type 0} → Result X RecoveryFault → Bool
-is_device (Ok x) = false
-is_device (Err fault) = is_device_fault fault
+abbrev pub is_recovery_device : {X : Type 0} → Result X RecoveryFault → Bool
+is_recovery_device (Ok x) = false
+is_recovery_device (Err fault) = is_device_fault fault
 
 -- the side file is of another file
 abbrev pub IsForeign : Files → Type 0
@@ -24,4 +24,4 @@ IsForeign f = Belongs f → ⊥
 pub record RecoveryLeaves {D : Type 0} (g : Ghosts D) (old : D) (answer : Result (Unit {0}) RecoveryFault) (new : D) : Type 0 where
   pub steady : g.steady new ≡ g.steady old
   pub began : g.began new ≡ g.began old
-  pub failures : g.failures new ≡ counted (g.failures old) (is_device answer)
+  pub failures : g.failures new ≡ counted (g.failures old) (is_recovery_device answer)

@@ -3,7 +3,7 @@ use Rattle.std.specs.Prelude.{◌≡◌, ℕ, ◌+◌, ◌^◌, ◌<◌, ◌≤�
 use Rattle.byteorder.specs.Endian.{big_bytes, big_number}
 use Rattle.rec_types.specs.Widths.{page_width}
 use Rattle.page_store.specs.FreeNumbers.{greatest_page_count}
-use Rattle.page_journal.specs.Files.{Kept}
+use Rattle.page_journal.specs.Files.{SideFile}
 use Rattle.page_journal.specs.Sums.{sum_start, sum_on}
 
 -- the text BMKRJRNL
@@ -46,17 +46,17 @@ sum_pages sum [] = sum
 sum_pages sum (p ∷ pages) = sum_pages (sum_on sum (entry_bytes p.0 p.1)) pages
 
 -- over all old pages, and then over the header up to the sum
-abbrev pub side_sum : Kept → ℕ
+abbrev pub side_sum : SideFile → ℕ
 side_sum kept = sum_on (sum_pages sum_start kept.pages) (front_bytes kept.long (length kept.pages) kept.rest)
 
 -- the bytes of the side file
-abbrev pub side_bytes : Kept → List ℕ
+abbrev pub side_bytes : SideFile → List ℕ
 side_bytes kept = side_header kept.long (length kept.pages) kept.rest (side_sum kept) ++ entries_bytes kept.pages
 
 -- whole pages whose numbers ascend from the least on, and are below the end
-abbrev pub Ascend : ℕ → ℕ → List (ℕ × List ℕ) → Type 0
-Ascend least end [] = ⊤
-Ascend least end (p ∷ pages) = (least ≤ p.0) × (p.0 < end) × (length p.1 ≡ page_width) × Ascend (suc p.0) end pages
+abbrev pub PagesAscend : ℕ → ℕ → List (ℕ × List ℕ) → Type 0
+PagesAscend least end [] = ⊤
+PagesAscend least end (p ∷ pages) = (least ≤ p.0) × (p.0 < end) × (length p.1 ≡ page_width) × PagesAscend (suc p.0) end pages
 
 abbrev pub BeginsWithPage0 : List (ℕ × List ℕ) → Type 0
 BeginsWithPage0 [] = ⊥
@@ -67,11 +67,11 @@ abbrev pub IsSum : Option ℕ → Type 0
 IsSum rest = IfSome rest (λ sum. sum < 2 ^ 64)
 
 -- what a side file can say: page 0 is kept, and the file had no more pages than there can be
-pub record IsSideFile (kept : Kept) : Type 0 where
+pub record IsSideFile (kept : SideFile) : Type 0 where
   pub rest : IsSum kept.rest
   pub most : kept.long ≤ greatest_page_count
   pub page_0 : BeginsWithPage0 kept.pages
-  pub ascend : Ascend 0 kept.long kept.pages
+  pub ascend : PagesAscend 0 kept.long kept.pages
 
 -- the first m entries of these bytes
 abbrev pub read_entries : ℕ → List ℕ → List (ℕ × List ℕ)
@@ -83,7 +83,7 @@ abbrev pub read_rest : List ℕ → Option ℕ
 read_rest bytes = cond (big_number 2 (drop 8 bytes) == 2) (Some (big_number 8 (drop 24 bytes))) None
 
 -- what the bytes of a side file say
-abbrev pub read_side : List ℕ → Kept
+abbrev pub read_side : List ℕ → SideFile
 read_side bytes = record {
   long = big_number 4 (drop 12 bytes);
   rest = read_rest bytes;
@@ -131,7 +131,7 @@ MayComeAll t [] = ⊤
 MayComeAll t (p ∷ pages) = MayCome t p.0 × (length p.1 ≡ page_width) × MayComeAll (tally_more t p.0 (entry_bytes p.0 p.1)) pages
 
 -- bytes that are read one entry after another and taken: the entries may come, there may be no more, and the header is the one that they have
-pub record IsTaken (kept : Kept) (bytes : List ℕ) : Type 0 where
+pub record TakesEntries (kept : SideFile) (bytes : List ℕ) : Type 0 where
   pub rest : IsSum kept.rest
   pub come : MayComeAll (first_tally kept.long kept.rest) kept.pages
   pub end : MayEnd (tally_on (first_tally kept.long kept.rest) kept.pages)

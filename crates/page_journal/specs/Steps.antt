@@ -5,29 +5,29 @@ use Rattle.page_store.specs.StoreFaults.{is_failed}
 use Rattle.page_store.specs.declared.store_fault.StoreFault.{StoreFault}
 use Rattle.page_store.specs.declared.store_fault.StoreFault.TheVariants.{Memory}
 use Rattle.commit_paper.specs.Text.{zeros}
-use Rattle.page_journal.specs.Files.{Kept, CommitFiles, Files}
+use Rattle.page_journal.specs.Files.{SideFile, CommitFiles, Files}
 use Rattle.page_journal.specs.declared.disk_state.DiskState.{Ghosts}
 use Rattle.page_journal.specs.declared.side_shape.SideShape.{SideShape}
 
 -- a side file with no page, which says nothing of the others
-abbrev pub nothing_kept : ℕ → Kept
+abbrev pub nothing_kept : ℕ → SideFile
 nothing_kept long = record { long = long; rest = None; pages = [] }
 
 -- a side file with no page yet, and what the sum over the others is
-abbrev pub begun : ℕ → ℕ → Kept
+abbrev pub begun : ℕ → ℕ → SideFile
 begun long rest = record { long = long; rest = Some rest; pages = [] }
 
 -- a side file with one page more
-abbrev pub kept_more : Kept → ℕ → List ℕ → Kept
+abbrev pub kept_more : SideFile → ℕ → List ℕ → SideFile
 kept_more kept n page = record { long = kept.long; rest = kept.rest; pages = kept.pages ++ (n, page) ∷ [] }
 
 -- how many pages the file had, how many of them a side file has, and the sum over the others
-abbrev pub side_shape : Option Kept → Option SideShape
+abbrev pub side_shape : Option SideFile → Option SideShape
 side_shape None = None
 side_shape (Some kept) = Some (record { long = kept.long; kept = length kept.pages; rest = kept.rest })
 
 -- the i-th old page of a side file with its number
-abbrev pub kept_at : Option Kept → ℕ → Option (ℕ × List ℕ)
+abbrev pub kept_at : Option SideFile → ℕ → Option (ℕ × List ℕ)
 kept_at None i = None
 kept_at (Some kept) i = slice_get kept.pages i
 
@@ -74,7 +74,7 @@ pub record Names (d c : Files) : Type 0 where
   pub commits : c.commits ≡ d.commits
 
 -- no side file has the name any more, or it stays as it was
-pub record Removes (d c : Files) : Type 0 where
+pub record RemovesSide (d c : Files) : Type 0 where
   pub main : c.main ≡ d.main
   pub side : (c.side ≡ d.side) ⊎ (c.side ≡ None)
   pub commits : c.commits ≡ d.commits
@@ -105,8 +105,8 @@ abbrev pub KeepsLog : CommitFiles → CommitFiles → Type 0
 KeepsLog seen c = (c.log ≡ None) ⊎ (c.log ≡ seen.log)
 
 -- these bytes over what stands at a place
-abbrev pub written : ℕ → List ℕ → List ℕ → List ℕ
-written at bytes old = take at old ++ bytes ++ drop (at + length bytes) old
+abbrev pub bytes_over : ℕ → List ℕ → List ℕ → List ℕ
+bytes_over at bytes old = take at old ++ bytes ++ drop (at + length bytes) old
 
 -- so many zeros from a place on, whatever there was
 abbrev pub zeroed : ℕ → ℕ → List ℕ → List ℕ

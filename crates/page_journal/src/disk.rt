@@ -5,7 +5,7 @@ ghost use Rattle.page_journal.specs.Crash.{BeginsAgain, IsAtRest};
 ghost use Rattle.page_journal.specs.Files.{Files};
 ghost use Rattle.commit_paper.specs.Text.{zeros};
 ghost use Rattle.commit_paper.specs.Steps.{Lengthens, Inks};
-ghost use Rattle.page_journal.specs.Steps.{CallDoes, AppendDoes, CallSyncs, CountsFault, Stays, Nothing, TornAt, GrowsUpTo, CutsTo, Fresh, Names, Removes, FreshLog, NamesLog, RemovesLog, ChangesLog, KeepsLog, HasMoment, InCommits, begun, kept_more, names_of, side_shape, kept_at, written, zeroed};
+ghost use Rattle.page_journal.specs.Steps.{CallDoes, AppendDoes, CallSyncs, CountsFault, Stays, Nothing, TornAt, GrowsUpTo, CutsTo, Fresh, Names, RemovesSide, FreshLog, NamesLog, RemovesLog, ChangesLog, KeepsLog, HasMoment, InCommits, begun, kept_more, names_of, side_shape, kept_at, bytes_over, zeroed};
 
 use crate::disk_state::DiskState;
 use crate::side_shape::SideShape;
@@ -90,7 +90,7 @@ pub trait Disk: DiskState {
     /// Takes the side file of that name away, at once or not at all. Fault: Failed.
     fn remove(&mut self) -> Result<(), StoreFault>
         ensures gone { OnOk result ((Self.seen self.new).side ≡ None) }
-        ensures does { CallDoes Self.DiskState Removes self.old result self.new }
+        ensures does { CallDoes Self.DiskState RemovesSide self.old result self.new }
         ensures moment { HasMoment Self.DiskState self.old result self.new };
 
     /// Has the device keep whether a side file has that name, and whether a log of commits has its, and nothing of what they
@@ -145,7 +145,7 @@ pub trait Disk: DiskState {
     fn write_log(&mut self, at: usize, bytes: &[u8]) -> Result<(), StoreFault>
         ensures written { IsTrue (Self.steady self.old) → OnOk result
             ((Self.seen self.new).commits.log
-            ≡ option_map (written at bytes.now) (Self.seen self.old).commits.log) }
+            ≡ option_map (bytes_over at bytes.now) (Self.seen self.old).commits.log) }
         ensures does { AppendDoes Self.DiskState (InCommits (ChangesLog (Inks at bytes.now)))
             self.old result self.new };
 

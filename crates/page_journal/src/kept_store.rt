@@ -14,9 +14,9 @@ ghost use Rattle.page_journal.specs.Files.{Files, Belongs, recovered};
 ghost use Rattle.page_journal.specs.Logging.{HasLog, IsTextOf, SaysNoneOr};
 ghost use Rattle.page_journal.specs.LoggedStores.{FindsAll, FindsNow, LeavesWithCommits, MayFind, commits_in};
 ghost use Rattle.page_journal.specs.Steps.{CallSyncs, StaysBegun, StaysSteady};
-ghost use Rattle.page_journal.specs.Crash.{IsSettled, IsAtRest, StandsAs, StandsFor, IsEither};
+ghost use Rattle.page_journal.specs.Crash.{IsSettled, IsAtRest, StandsAs, FilesStandFor, StandsForEither};
 ghost use Rattle.page_journal.specs.Recovery.{IsForeign, RecoveryLeaves, is_device_fault};
-ghost use Rattle.page_journal.specs.KeptStores.{IsFinished, KeepsFile, failures_with, guard_of, KeptStored, CanBeSealed, is_open, may_write_in};
+ghost use Rattle.page_journal.specs.KeptStores.{IsFinished, KeepsFile, failures_with, guard_of, KeptStored, CanBeSealed, is_writable, may_write_in};
 
 mod file_sum;
 
@@ -88,7 +88,7 @@ impl<D: Disk + Drop> Model for KeptStore<D> {
 
 // Whether page n was kept or is past the old end.
 fn is_open(kept: &[bool], n: u32) -> bool
-    ensures { result ≡ is_open kept.now n }
+    ensures { result ≡ is_writable kept.now n }
 {
     let at = n as usize;
     at >= kept.len() || kept[at]
@@ -98,7 +98,7 @@ fn is_open(kept: &[bool], n: u32) -> bool
 fn flags_of(alloc: Global, long: u32, numbers: &[u32]) -> Result<Vec<bool>, Memory>
     ensures long { IfOk result (λ flags. length flags.items ≡ long) }
     ensures flags { IfOk result (λ flags. (n : ℕ) → n < long
-        → is_open flags.items n ≡ list_any (λ m. n == m) numbers.now) }
+        → is_writable flags.items n ≡ list_any (λ m. n == m) numbers.now) }
 {
     let mut flags = vec![in alloc; false; long as usize]?;
     for n in numbers {
@@ -116,7 +116,7 @@ impl<D: Disk + Drop> KeptStore<D> {
         requires settled { IsTrue (D.steady disk)
             → IsSettled D.DiskState (recovered (D.began disk)) disk }
         requires time { IsTrue (D.steady disk) → (c : Files) → D.left_since disk 0 c
-            → StandsFor (recovered (D.began disk)) c }
+            → FilesStandFor (recovered (D.began disk)) c }
         requires log { IsTrue (D.steady disk)
             → (D.seen disk).commits.log ≡ (D.began disk).commits.log }
         requires log_time { IsTrue (D.steady disk) → (c : Files) → D.left_since disk 0 c
@@ -203,7 +203,7 @@ impl<D: Disk + Drop> KeptStore<D> {
         ensures logs { IfOk result (λ s. IsSome s.log) }
         ensures stopped { IsTrue (D.steady self.disk) → (unit : List (List ℕ)) → IsUnit unit
             → head.now ≡ unit_text unit → IfErr result (λ stop. (c : Files)
-            → D.left_since stop.0 0 c → StandsFor (recovered (D.began self.disk)) c
+            → D.left_since stop.0 0 c → FilesStandFor (recovered (D.began self.disk)) c
             × SaysNoneOr (unit ∷ []) c) }
         ensures device { IfErr result (λ stop. (D.failures stop.0
             ≡ counted (D.failures self.disk) true) × (stop.1 ≡ StoreFault.Failed)) }
@@ -280,7 +280,7 @@ impl<D: Disk + Drop> KeptStore<D> {
         ensures commits { (D.seen self.new.disk).commits ≡ (D.seen self.old.disk).commits }
         ensures sealed { OnOk result ((self.new.state ≡ SealState.Sealed) × ((n : ℕ)
             → n < length (D.seen self.old.disk).main.pages
-            → is_open self.new.kept n ≡ list_any (λ m. n == m) numbers.now)) }
+            → is_writable self.new.kept n ≡ list_any (λ m. n == m) numbers.now)) }
         ensures again { self.old.state ≢ SealState.Unsealed → (result ≡ Err StoreFault.Failed)
             × (self.new ≡ record self.old { refusals = counted self.old.refusals true }) }
         ensures guard { CanBeSealed (D.seen self.old.disk).main → SealsGuard
@@ -329,7 +329,7 @@ impl<D: Disk + Drop> KeptStore<D> {
         ensures settled { IsTrue (D.steady self.disk) → OnOk result.1
             (IsSettled D.DiskState (D.seen self.disk).main result.0) }
         ensures any_moment { IsTrue (D.steady self.disk) → (c : Files) → D.left_since result.0 0 c
-            → IsEither (recovered (D.began self.disk)) (D.seen self.disk).main c }
+            → StandsForEither (recovered (D.began self.disk)) (D.seen self.disk).main c }
         ensures keeps { KeepsFile D.DiskState self.disk result.0 }
         ensures finished { IsFinished D.DiskState self.state self.disk result.1 result.0 }
         ensures commits { IsTrue (D.steady self.disk) → (c : Files) → D.left_since result.0 0 c
@@ -364,7 +364,7 @@ impl<D: Disk + Drop> KeptStore<D> {
         ensures old { IsTrue (D.steady self.disk)
             → OnOk result.1 ((D.seen result.0).main ≡ recovered (D.began self.disk)) }
         ensures any_moment { IsTrue (D.steady self.disk) → (c : Files) → D.left_since result.0 0 c
-            → StandsFor (recovered (D.began self.disk)) c }
+            → FilesStandFor (recovered (D.began self.disk)) c }
         ensures commits { IsTrue (D.steady self.disk) → (c : Files) → D.left_since result.0 0 c
             → MayFind self.log (D.began self.disk) (commits_in self.log (D.seen self.disk))
             self.doubt c }
@@ -520,7 +520,7 @@ impl<D: Disk + Drop> SealStore for KeptStore<D> {
             (guard_of self.new.state self.new.kept self.new.refusals) }
         ensures sealed { OnOk result ((self.new.state ≡ SealState.Sealed) × ((n : ℕ)
             → n < length (D.seen self.old.disk).main.pages
-            → is_open self.new.kept n ≡ list_any (λ m. n == m) numbers.now)) }
+            → is_writable self.new.kept n ≡ list_any (λ m. n == m) numbers.now)) }
         ensures again { self.old.state ≢ SealState.Unsealed
             → (result ≡ Err StoreFault.Failed) × (self.new.disk ≡ self.old.disk) }
         ensures passes { self.old.state ≡ SealState.Unsealed

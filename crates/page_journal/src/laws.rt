@@ -3,13 +3,13 @@ ghost use Rattle.std.specs.Prelude.{◌≡◌, ◌≢◌, ℕ, List, [], ◌∷�
 ghost use Rattle.page_store.specs.Journal.{carried};
 ghost use Rattle.page_store.specs.declared.step.Step.{Step};
 ghost use Rattle.page_journal.specs.Carrying.{LeavesOf, WritesKept};
-ghost use Rattle.page_journal.specs.Files.{PageFile, Kept, Files, Agree, IsOf, restored, recovered};
-ghost use Rattle.page_journal.specs.Crash.{StandsFor, IsEither, Gathered};
+ghost use Rattle.page_journal.specs.Files.{PageFile, SideFile, Files, Agree, IsOf, restored, recovered};
+ghost use Rattle.page_journal.specs.Crash.{FilesStandFor, StandsForEither, Gathered};
 ghost use Rattle.page_journal.specs.History.{all_done, MayLeave, LeftSince};
-ghost use Rattle.page_journal.specs.Examples.{pages_of_two, alone, old_file, word, words, word_kept, page_1_kept, page_1_written, both_written, both_writes, side_made, side_named, named_early, log_made, log_named_early, with_log, page_1_steps, both_steps};
+ghost use Rattle.page_journal.specs.Examples.{pages_of_two, without_side_file, old_file, word, words, word_kept, page_1_kept, page_1_written_over, both_written, both_writes, side_made, side_named, named_early, log_made, log_named_early, with_log, page_1_steps, both_steps};
 ghost use Rattle.page_store.specs.Blank.{blank};
 ghost use Rattle.page_journal.specs.Sums.{sum_start, sum_on, sum_of_all};
-ghost use Rattle.page_journal.specs.SideBytes.{side_header, entry_bytes, side_bytes, read_side, IsSideFile, IsTaken};
+ghost use Rattle.page_journal.specs.SideBytes.{side_header, entry_bytes, side_bytes, read_side, IsSideFile, TakesEntries};
 ghost use Rattle.page_journal.specs.declared.commit_call.CommitCall.{CommitCall};
 ghost use Rattle.page_journal.specs.declared.disk_call.DiskCall.{DiskCall};
 ghost use Rattle.std.specs.Prelude.{Vec};
@@ -19,10 +19,10 @@ ghost use Rattle.std.specs.declared.alloc.Global.{Global};
 /// example page 1 of two was kept, then it was written over and a page was added. It fails where a page was written
 /// over that wasn't kept.
 pub fn old_pages_put_back()
-    ensures same { (kept : Kept) (a b : List (List ℕ)) → Agree kept a b
+    ensures same { (kept : SideFile) (a b : List (List ℕ)) → Agree kept a b
         → restored kept b ≡ restored kept a }
-    ensures agree { Agree page_1_kept old_file.pages page_1_written }
-    ensures example { restored page_1_kept page_1_written ≡ old_file }
+    ensures agree { Agree page_1_kept old_file.pages page_1_written_over }
+    ensures example { restored page_1_kept page_1_written_over ≡ old_file }
     ensures disagree { Agree page_1_kept old_file.pages both_written → ⊥ }
     ensures not_kept { restored page_1_kept both_written ≢ old_file }
 {}
@@ -31,7 +31,7 @@ pub fn old_pages_put_back()
 /// In the example page 1 of two was kept, and page 0 has a sum. A copy whose page 0 is another's, and one that is shorter,
 /// have no part in it; a side file of the first version says nothing of page 0.
 pub fn whose_side_file_it_is()
-    ensures same { (kept : Kept) (a b : List (List ℕ)) → Agree kept a b → IsOf kept a → IsOf kept b }
+    ensures same { (kept : SideFile) (a b : List (List ℕ)) → Agree kept a b → IsOf kept a → IsOf kept b }
     ensures own { (b : ℕ) → IsOf word_kept (words 1 b) }
     ensures other { IsOf word_kept (words 7 2) → ⊥ }
     ensures shorter { IsOf word_kept (word 1 ∷ []) → ⊥ }
@@ -42,7 +42,7 @@ pub fn whose_side_file_it_is()
 /// and whatever a crash makes of each, the old pages put back make the old file. In the example page 1 of two was
 /// kept. It fails where a step writes a page that wasn't.
 pub fn steps_put_back()
-    ensures each { (kept : Kept) (old now : List (List ℕ)) (done : List Step)
+    ensures each { (kept : SideFile) (old now : List (List ℕ)) (done : List Step)
         → Gathered old kept → All (WritesKept kept) done → LeavesOf done old now
         → restored kept now ≡ record { pages = old; tail = 0 } }
     ensures front { (old : List (List ℕ)) (all : List Step) (k : ℕ)
@@ -64,16 +64,16 @@ pub fn outcomes_in_memory()
 /// Two pages are written, and not synced: the second may be done where the first is lost or torn, and a sync of the
 /// names changes none of that. A sync leaves both done. A page that wasn't written is never another.
 pub fn writes_by_example()
-    ensures lost { MayLeave (alone old_file) both_writes (alone (pages_of_two 1 9)) }
-    ensures torn { MayLeave (alone old_file) both_writes (alone (pages_of_two 5 9)) }
-    ensures other_sync { MayLeave (alone old_file) (DiskCall.SyncNames ∷ both_writes)
-        (alone (pages_of_two 1 9)) }
-    ensures synced { (c : Files) → MayLeave (alone old_file) (DiskCall.Sync ∷ both_writes) c
+    ensures lost { MayLeave (without_side_file old_file) both_writes (without_side_file (pages_of_two 1 9)) }
+    ensures torn { MayLeave (without_side_file old_file) both_writes (without_side_file (pages_of_two 5 9)) }
+    ensures other_sync { MayLeave (without_side_file old_file) (DiskCall.SyncNames ∷ both_writes)
+        (without_side_file (pages_of_two 1 9)) }
+    ensures synced { (c : Files) → MayLeave (without_side_file old_file) (DiskCall.Sync ∷ both_writes) c
         → c.main ≡ pages_of_two 7 9 }
-    ensures not_durable { ((c : Files) → MayLeave (alone old_file) both_writes c
+    ensures not_durable { ((c : Files) → MayLeave (without_side_file old_file) both_writes c
         → c.main ≡ pages_of_two 7 9) → ⊥ }
-    ensures other_page { MayLeave (alone old_file) (DiskCall.Write 0 (7 ∷ []) ∷ [])
-        (alone (pages_of_two 7 9)) → ⊥ }
+    ensures other_page { MayLeave (without_side_file old_file) (DiskCall.Write 0 (7 ∷ []) ∷ [])
+        (without_side_file (pages_of_two 7 9)) → ⊥ }
 {}
 
 /// Both pages are kept beside the file. Where the side file was synced before it got the name, a crash leaves files that
@@ -81,27 +81,27 @@ pub fn writes_by_example()
 /// wasn't synced, also once the names are, and where pages are written over before the names are synced; and one
 /// of the old and the new file it doesn't leave where the side file is taken away before the last sync.
 pub fn naming_by_example()
-    ensures named { (c : Files) → MayLeave (alone old_file) (DiskCall.Name ∷ side_made) c
-        → StandsFor old_file c }
-    ensures sealed { (c : Files) → MayLeave (alone old_file) (both_writes ++ side_named) c
-        → StandsFor old_file c }
-    ensures named_early { ((c : Files) → MayLeave (alone old_file) named_early c
-        → StandsFor old_file c) → ⊥ }
-    ensures written_early { ((c : Files) → MayLeave (alone old_file)
-        (both_writes ++ DiskCall.Name ∷ side_made) c → StandsFor old_file c) → ⊥ }
-    ensures removed_early { ((c : Files) → MayLeave (alone old_file)
+    ensures named { (c : Files) → MayLeave (without_side_file old_file) (DiskCall.Name ∷ side_made) c
+        → FilesStandFor old_file c }
+    ensures sealed { (c : Files) → MayLeave (without_side_file old_file) (both_writes ++ side_named) c
+        → FilesStandFor old_file c }
+    ensures named_early { ((c : Files) → MayLeave (without_side_file old_file) named_early c
+        → FilesStandFor old_file c) → ⊥ }
+    ensures written_early { ((c : Files) → MayLeave (without_side_file old_file)
+        (both_writes ++ DiskCall.Name ∷ side_made) c → FilesStandFor old_file c) → ⊥ }
+    ensures removed_early { ((c : Files) → MayLeave (without_side_file old_file)
         (DiskCall.SyncNames ∷ DiskCall.Remove ∷ both_writes ++ side_named) c
-        → IsEither old_file (pages_of_two 7 9) c) → ⊥ }
+        → StandsForEither old_file (pages_of_two 7 9) c) → ⊥ }
 {}
 
 /// A log of commits that was synced before it got its name, which the device keeps then, is there with its bytes whatever else
 /// a crash takes. It fails where it wasn't synced. A write that isn't synced may be done or lost; once it is synced it is there,
 /// and a sync of the names alone keeps nothing of it. Pages stay as they were.
 pub fn logs_by_example()
-    ensures made { (bytes : Vec ℕ Global) (c : Files) → MayLeave (alone old_file) (log_made bytes) c
+    ensures made { (bytes : Vec ℕ Global) (c : Files) → MayLeave (without_side_file old_file) (log_made bytes) c
         → (c.commits.log ≡ Some bytes.items) × (c.main ≡ old_file) }
     ensures named_early { (bytes : Vec ℕ Global) → bytes.items ≡ 7 ∷ []
-        → ((c : Files) → MayLeave (alone old_file) (log_named_early bytes) c
+        → ((c : Files) → MayLeave (without_side_file old_file) (log_named_early bytes) c
         → c.commits.log ≡ Some bytes.items) → ⊥ }
     ensures lost { (bytes : Vec ℕ Global) → bytes.items ≡ 7 ∷ [] → MayLeave (with_log old_file (0 ∷ []))
         (DiskCall.SyncNames ∷ DiskCall.Commits (CommitCall.Write 0 bytes) ∷ [])
@@ -124,9 +124,9 @@ pub fn file_sums_by_example()
 /// nowhere else. In the examples four bytes have a sum, which others than they don't have; a header is of a file of three pages of
 /// which two are kept, with the sum 5 over the third and the sum 7; in the first version the third has none. Pages that don't ascend, and pages without page 0, are no side file's.
 pub fn side_file_by_bytes()
-    ensures read { (kept : Kept) → IsSideFile kept → read_side (side_bytes kept) ≡ kept }
-    ensures taken { (kept : Kept) → IsSideFile kept → IsTaken kept (side_bytes kept) }
-    ensures only { (kept : Kept) (bytes : List ℕ) → IsTaken kept bytes
+    ensures read { (kept : SideFile) → IsSideFile kept → read_side (side_bytes kept) ≡ kept }
+    ensures taken { (kept : SideFile) → IsSideFile kept → TakesEntries kept (side_bytes kept) }
+    ensures only { (kept : SideFile) (bytes : List ℕ) → TakesEntries kept bytes
         → IsSideFile kept × (bytes ≡ side_bytes kept) }
     ensures sum { sum_on sum_start (0x61 ∷ 0x62 ∷ 0x63 ∷ 0x64 ∷ []) ≡ 0xcd80d9f18c2d2e73 }
     ensures other_order { sum_on sum_start (0x64 ∷ 0x63 ∷ 0x62 ∷ 0x61 ∷ []) ≢ 0xcd80d9f18c2d2e73 }

@@ -4,7 +4,7 @@ ghost use Rattle.commit_paper.specs.Text.{IsUnit, unit_text};
 ghost use Rattle.page_store.specs.StoreFaults.{is_failed};
 ghost use Rattle.page_journal.specs.Steps.{CountsFault, Stays, StaysBegun, StaysSteady, StaysUncounted};
 ghost use Rattle.page_journal.specs.Crash.{LeavesOnly, LeavesPages};
-ghost use Rattle.page_journal.specs.Logging.{HasLog, HasLogOf, HasNoLog, HasRoom, IsTextOf, IsReady, Says, SaysEither, SaysNoneOr, Stands, StaysWithin};
+ghost use Rattle.page_journal.specs.Logging.{HasLog, HasLogOf, HasNoLog, HasRoom, IsTextOf, IsReady, Says, SaysEither, SaysNoneOr, StandsInLog, StaysWithin};
 
 use crate::disk::Disk;
 use crate::log_place::LogPlace;
@@ -108,7 +108,7 @@ fn ink<D: Disk>(disk: &mut D, place: &mut LogPlace, text: &[u8]) -> Result<(), S
         → LeavesOnly D.DiskState (SaysEither units unit) disk.old disk.new }
     ensures stand { IsTrue (D.steady disk.old) → (units : List (List (List ℕ)))
         → IsReady D.DiskState units place.old disk.old
-        → OnErr result (Stands units place.new (D.seen disk.new)) }
+        → OnErr result (StandsInLog units place.new (D.seen disk.new)) }
     ensures end { OnErr result (place.new ≡ place.old) }
     ensures fits { place.new.end ≤ place.new.long }
 {
@@ -135,7 +135,7 @@ pub fn append<D: Disk>(disk: &mut D, place: &mut LogPlace, text: &[u8]) -> Resul
         × LeavesOnly D.DiskState (Says units) disk.old disk.new }
     ensures doubt { IsTrue (D.steady disk.old) → (units : List (List (List ℕ)))
         → IsReady D.DiskState units place.old disk.old → IsErrOf result AppendFault.Doubt
-        → Stands units place.new (D.seen disk.new) }
+        → StandsInLog units place.new (D.seen disk.new) }
     ensures any_moment { IsTrue (D.steady disk.old) → (units : List (List (List ℕ)))
         → (unit : List (List ℕ)) → IsReady D.DiskState units place.old disk.old → IsUnit unit
         → text.now ≡ unit_text unit

@@ -1,7 +1,7 @@
 ghost use Rattle.std.specs.Prelude.{◌≡◌, ◌++◌, [], option_map, IsTrue, IfOk, OnOk};
 ghost use Rattle.commit_paper.specs.Text.{zeros};
 ghost use Rattle.page_journal.specs.Files.{no_commits};
-ghost use Rattle.page_journal.specs.Steps.{written, zeroed};
+ghost use Rattle.page_journal.specs.Steps.{bytes_over, zeroed};
 ghost use Rattle.page_journal.specs.History.{commits_done, StaysOnErr};
 ghost use Rattle.page_journal.specs.Fates.{commits_torn, CommitsAgree};
 ghost use Rattle.page_journal.specs.declared.commit_call.CommitCall.{CommitCall};
@@ -71,7 +71,7 @@ impl LogBytes {
 
     /// These bytes over what stands at a place. Fault: Memory.
     fn written(&self, at: usize, bytes: &[u8]) -> Result<LogBytes, Memory>
-        ensures { IfOk result (λ log. log ≡ written at bytes.now self.now) }
+        ensures { IfOk result (λ log. log ≡ bytes_over at bytes.now self.now) }
     {
         let start = at.min(self.bytes.len());
         let end = at.saturating_add(bytes.len()).min(self.bytes.len());
@@ -204,7 +204,7 @@ impl MemCommits {
 
     // Writes over what stands at a place of it. Fault: Memory; nothing has changed then.
     fn write(&mut self, at: usize, bytes: &[u8]) -> Result<(), Memory>
-        ensures ok { OnOk result (self.new ≡ record self.old { log = option_map (written at bytes.now) self.old.log }) }
+        ensures ok { OnOk result (self.new ≡ record self.old { log = option_map (bytes_over at bytes.now) self.old.log }) }
         ensures err { StaysOnErr result self.old self.new }
     {
         if let Some(log) = &self.log {

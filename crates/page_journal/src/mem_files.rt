@@ -2,7 +2,7 @@ ghost use Rattle.std.specs.Prelude.{◌≡◌, ◌<◌, IsTrue, IfOk, OnOk, OnEr
 ghost use Rattle.rec_types.specs.Widths.{page_width};
 ghost use Rattle.page_journal.specs.Steps.{nothing_kept, begun, kept_more};
 ghost use Rattle.page_journal.specs.History.{done};
-ghost use Rattle.page_journal.specs.Fates.{grown, torn, kept_by, fated, NamesAgree};
+ghost use Rattle.page_journal.specs.Fates.{grown, torn, synced_by, fated, NamesAgree};
 ghost use Rattle.page_journal.specs.declared.disk_call.DiskCall.{DiskCall};
 
 use crate::blank::{blank_page, noise_page};
@@ -43,9 +43,9 @@ pub(crate) struct OldPages {
 }
 
 impl Model for OldPages {
-    ghost use Rattle.page_journal.specs.Files.{Kept};
+    ghost use Rattle.page_journal.specs.Files.{SideFile};
 
-    ghost Value = { Kept };
+    ghost Value = { SideFile };
 
     ghost view = { λ k. record { long = k.long; rest = k.rest; pages = k.pages.items } };
 }
@@ -225,7 +225,7 @@ impl MemFiles {
 
     // Takes the part that a sync keeps from what is seen. Fault: Memory.
     fn keep_part(&mut self, call: &DiskCall, seen: &MemFiles) -> Result<(), Memory>
-        ensures { OnOk result (self.new ≡ kept_by call.now seen.now self.old) }
+        ensures { OnOk result (self.new ≡ synced_by call.now seen.now self.old) }
     {
         match call {
             DiskCall::Sync => {

@@ -1,9 +1,9 @@
 ghost use Rattle.std.specs.Prelude.{◌≡◌, ◌↔◌, ◌<◌, ◌≤◌, ℕ, List, Some, Err, length, IsTrue, IfOk, MatchOption, OnOk, slice_set};
 ghost use Rattle.page_store.specs.Calls.{counted_times};
-ghost use Rattle.page_journal.specs.Files.{Kept, IsOf, Belongs, AscendBelow, is_kept, recovered, restored};
+ghost use Rattle.page_journal.specs.Files.{SideFile, IsOf, Belongs, AscendBelow, is_kept, recovered, restored};
 ghost use Rattle.page_journal.specs.Sums.{SumsOn, sum_without};
 ghost use Rattle.page_journal.specs.Steps.{CallDoes, CallsLeave, CountsFault, Stays, TornAt, side_shape};
-ghost use Rattle.page_journal.specs.Crash.{LeavesLogs, LeavesOnly, IsSettled, IsSealed, IsAtRest, StandsAs, StandsFor, IsEither, MayWrite, PutsBack};
+ghost use Rattle.page_journal.specs.Crash.{LeavesLogs, LeavesOnly, IsSettled, IsSealed, IsAtRest, StandsAs, FilesStandFor, StandsForEither, MayWrite, PutsBack};
 ghost use Rattle.page_journal.specs.Recovery.{IsForeign, RecoveryLeaves};
 ghost use Rattle.page_journal.specs.StandsBeside.{StandsBeside};
 
@@ -28,9 +28,9 @@ pub(crate) fn overwrite<D: Disk>(
     ensures does { CallDoes D.DiskState (TornAt n) disk.old result disk.new }
     ensures page { IsTrue (D.steady disk.old) → OnOk result ((D.seen disk.new).main.pages
         ≡ slice_set (D.seen disk.old).main.pages n page.now) }
-    ensures sealed { (kept : Kept) (base : List (List ℕ)) → IsSealed D.DiskState kept base disk.old
+    ensures sealed { (kept : SideFile) (base : List (List ℕ)) → IsSealed D.DiskState kept base disk.old
         → MayWrite kept n → IsSealed D.DiskState kept base disk.new
-        × LeavesOnly D.DiskState (StandsFor (restored kept base)) disk.old disk.new }
+        × LeavesOnly D.DiskState (FilesStandFor (restored kept base)) disk.old disk.new }
 {
     disk.write(n, page)
 }
@@ -43,12 +43,12 @@ pub fn commit<D: Disk>(disk: &mut D) -> Result<(), StoreFault>
     ensures moments { OnOk result (counted_times (D.moment disk.old) 3 ≤ D.moment disk.new) }
     ensures logs { LeavesLogs D.DiskState disk.old disk.new }
     ensures same { (D.seen disk.new).main ≡ (D.seen disk.old).main }
-    ensures committed { (kept : Kept) (base : List (List ℕ))
+    ensures committed { (kept : SideFile) (base : List (List ℕ))
         → IsSealed D.DiskState kept base disk.old
         → OnOk result (IsSettled D.DiskState (D.seen disk.old).main disk.new) }
-    ensures any_moment { (kept : Kept) (base : List (List ℕ))
+    ensures any_moment { (kept : SideFile) (base : List (List ℕ))
         → IsSealed D.DiskState kept base disk.old → LeavesOnly D.DiskState
-        (IsEither (restored kept base) (D.seen disk.old).main) disk.old disk.new }
+        (StandsForEither (restored kept base) (D.seen disk.old).main) disk.old disk.new }
 {
     disk.sync()?;
     disk.remove()?;
@@ -62,7 +62,7 @@ fn put_pages<D: Disk>(disk: &mut D, long: u32, count: u32) -> Result<(), StoreFa
     ensures calls { CallsLeave D.DiskState disk.old result disk.new }
     ensures logs { LeavesLogs D.DiskState disk.old disk.new }
     ensures tail { (D.seen disk.new).main.tail ≡ (D.seen disk.old).main.tail }
-    ensures put { IsTrue (D.steady disk.old) → (kept : Kept) (base : List (List ℕ))
+    ensures put { IsTrue (D.steady disk.old) → (kept : SideFile) (base : List (List ℕ))
         → kept.long ≡ long → length kept.pages ≡ count → IsSealed D.DiskState kept base disk.old
         → PutsBack D.DiskState kept base result disk.old disk.new }
 {
@@ -82,12 +82,12 @@ fn put_back<D: Disk>(disk: &mut D, side: SideShape) -> Result<(), StoreFault>
     requires long { side.long ≤ length (D.seen disk.old).main.pages }
     ensures calls { CallsLeave D.DiskState disk.old result disk.new }
     ensures logs { LeavesLogs D.DiskState disk.old disk.new }
-    ensures restored { IsTrue (D.steady disk.old) → (kept : Kept) (base : List (List ℕ))
+    ensures restored { IsTrue (D.steady disk.old) → (kept : SideFile) (base : List (List ℕ))
         → side_shape (Some kept) ≡ Some side → IsSealed D.DiskState kept base disk.old
         → OnOk result (IsSettled D.DiskState (restored kept base) disk.new) }
-    ensures any_moment { IsTrue (D.steady disk.old) → (kept : Kept) (base : List (List ℕ))
+    ensures any_moment { IsTrue (D.steady disk.old) → (kept : SideFile) (base : List (List ℕ))
         → side_shape (Some kept) ≡ Some side → IsSealed D.DiskState kept base disk.old
-        → LeavesOnly D.DiskState (StandsFor (restored kept base)) disk.old disk.new }
+        → LeavesOnly D.DiskState (FilesStandFor (restored kept base)) disk.old disk.new }
 {
     disk.cut(side.long)?;
     put_pages(disk, side.long, side.kept)?;
@@ -124,7 +124,7 @@ fn sum_of_others<D: Disk>(disk: &mut D, side: SideShape) -> Result<Option<u64>, 
     requires long { side.long ≤ length (D.seen disk.old).main.pages }
     ensures stays { Stays D.DiskState disk.old disk.new }
     ensures fault { CountsFault D.DiskState disk.old result disk.new }
-    ensures sum { IsTrue (D.steady disk.old) → (kept : Kept)
+    ensures sum { IsTrue (D.steady disk.old) → (kept : SideFile)
         → (D.seen disk.old).side ≡ Some kept → side_shape (Some kept) ≡ Some side
         → IfOk result (λ found. MatchOption found (AscendBelow 0 kept.long kept.pages → ⊥)
         (λ sum. AscendBelow 0 kept.long kept.pages
@@ -151,7 +151,7 @@ fn belongs<D: Disk>(disk: &mut D, side: SideShape) -> Result<bool, StoreFault>
     ensures fault { CountsFault D.DiskState disk.old result disk.new }
     ensures long { IfOk result (λ own. IsTrue own
         → side.long ≤ length (D.seen disk.old).main.pages) }
-    ensures own { IsTrue (D.steady disk.old) → (kept : Kept)
+    ensures own { IsTrue (D.steady disk.old) → (kept : SideFile)
         → (D.seen disk.old).side ≡ Some kept → side_shape (Some kept) ≡ Some side
         → IfOk result (λ own. IsTrue own ↔ IsOf kept (D.seen disk.old).main.pages) }
 {
@@ -194,12 +194,12 @@ pub fn recover<D: Disk>(disk: &mut D) -> Result<(), RecoveryFault>
         (IsSettled D.DiskState (recovered (D.seen disk.old)) disk.new) }
     ensures any_moment { IsTrue (D.steady disk.old) → IsAtRest D.DiskState disk.old
         → LeavesOnly D.DiskState (StandsAs (D.seen disk.old)) disk.old disk.new }
-    ensures taken_back { IsTrue (D.steady disk.old) → (kept : Kept) (base : List (List ℕ))
+    ensures taken_back { IsTrue (D.steady disk.old) → (kept : SideFile) (base : List (List ℕ))
         → IsSealed D.DiskState kept base disk.old
         → OnOk result (IsSettled D.DiskState (restored kept base) disk.new) }
-    ensures taken_back_at_any_moment { IsTrue (D.steady disk.old) → (kept : Kept)
+    ensures taken_back_at_any_moment { IsTrue (D.steady disk.old) → (kept : SideFile)
         (base : List (List ℕ)) → IsSealed D.DiskState kept base disk.old
-        → LeavesOnly D.DiskState (StandsFor (restored kept base)) disk.old disk.new }
+        → LeavesOnly D.DiskState (FilesStandFor (restored kept base)) disk.old disk.new }
     ensures bad_journal { IsTrue (D.steady disk.old) → result ≡ Err RecoveryFault.BadJournal
         → IsForeign (D.seen disk.old) }
     ensures belongs { IsTrue (D.steady disk.old) → OnOk result (Belongs (D.seen disk.old)) }

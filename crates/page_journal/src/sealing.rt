@@ -1,9 +1,9 @@
 ghost use Rattle.std.specs.Prelude.{◌≡◌, ◌≤◌, ℕ, List, Some, false, length, IsTrue, OnOk, IfOk, slice_index_or};
 ghost use Rattle.page_store.specs.FreeNumbers.{greatest_page_count};
-ghost use Rattle.page_journal.specs.Files.{Kept, AscendBelow, restored};
+ghost use Rattle.page_journal.specs.Files.{SideFile, AscendBelow, restored};
 ghost use Rattle.page_journal.specs.Sums.{sum_without};
 ghost use Rattle.page_journal.specs.Steps.{CallsLeave, CountsFault, Stays, begun};
-ghost use Rattle.page_journal.specs.Crash.{LeavesLogs, LeavesOnly, IsSettled, IsSealed, StandsFor, Gathered, KeepsMarked};
+ghost use Rattle.page_journal.specs.Crash.{LeavesLogs, LeavesOnly, IsSettled, IsSealed, FilesStandFor, Gathered, KeepsMarked};
 
 use crate::blank::blank_page;
 use crate::disk::Disk;
@@ -46,7 +46,7 @@ fn gather<D: Disk>(disk: &mut D, marks: &[bool]) -> Result<(), StoreFault>
     ensures settled { IsTrue (D.steady disk.old)
         → IsSettled D.DiskState (D.seen disk.old).main disk.new }
     ensures any_moment { IsTrue (D.steady disk.old) → LeavesOnly D.DiskState
-        (StandsFor (D.seen disk.old).main) disk.old disk.new }
+        (FilesStandFor (D.seen disk.old).main) disk.old disk.new }
     ensures kept { IsTrue (D.steady disk.old) → OnOk result
         (Gathered (D.seen disk.old).main.pages (D.seen disk.new).fresh
         × KeepsMarked marks.now (D.seen disk.new).fresh
@@ -79,12 +79,12 @@ pub fn seal<D: Disk>(disk: &mut D, marks: &[bool]) -> Result<(), StoreFault>
     ensures calls { CallsLeave D.DiskState disk.old result disk.new }
     ensures logs { LeavesLogs D.DiskState disk.old disk.new }
     ensures same { (D.seen disk.new).main ≡ (D.seen disk.old).main }
-    ensures sealed { IsTrue (D.steady disk.old) → OnOk result ((kept : Kept)
+    ensures sealed { IsTrue (D.steady disk.old) → OnOk result ((kept : SideFile)
         × IsSealed D.DiskState kept (D.seen disk.old).main.pages disk.new
         × (restored kept (D.seen disk.old).main.pages ≡ (D.seen disk.old).main)
         × (kept.long ≡ length (D.seen disk.old).main.pages) × KeepsMarked marks.now kept) }
     ensures any_moment { IsTrue (D.steady disk.old) → LeavesOnly D.DiskState
-        (StandsFor (D.seen disk.old).main) disk.old disk.new }
+        (FilesStandFor (D.seen disk.old).main) disk.old disk.new }
 {
     let rest = sum_of_rest(disk, marks)?;
     disk.start(marks.len() as u32, rest)?;

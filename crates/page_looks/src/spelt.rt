@@ -1,7 +1,7 @@
 ghost use Rattle.std.specs.Prelude.{◌≡◌, ℕ, ◌≤◌, IsTrue, IsFalse};
 ghost use Rattle.btree_node.specs.Layout.{IsOrder, IsVersion};
 ghost use Rattle.btree_node.specs.declared.node.Node.{Node};
-ghost use Rattle.page_looks.specs.Spelt.{IsKind, Spells, SpellsIn};
+ghost use Rattle.page_looks.specs.Spelt.{IsKind, PageSpells, PageSpellsIn};
 
 use btree_node::{FIRST_VERSION, GREATEST_ORDER, Header, Node, SECOND_VERSION, decode_version};
 use rec_types::PAGE_WIDTH;
@@ -18,9 +18,9 @@ pub struct Kind {
 // Whether the page spells a node in a file of that kind; `node` becomes it.
 fn spells_in(page: &[u8; PAGE_WIDTH], kind: Kind, node: &mut Node) -> bool
     requires { IsOrder kind.order }
-    ensures found { IsTrue result → SpellsIn kind.version kind.order page.now node.new }
+    ensures found { IsTrue result → PageSpellsIn kind.version kind.order page.now node.new }
     ensures none { IsFalse result → (other : Node)
-        → SpellsIn kind.version kind.order page.now other → ⊥ }
+        → PageSpellsIn kind.version kind.order page.now other → ⊥ }
 {
     decode_version(kind.version, page, kind.order, node).is_ok()
 }
@@ -28,9 +28,9 @@ fn spells_in(page: &[u8; PAGE_WIDTH], kind: Kind, node: &mut Node) -> bool
 // Whether it does so in a file of that order, of either version.
 fn spells_at(page: &[u8; PAGE_WIDTH], order: u16, node: &mut Node) -> bool
     requires { IsOrder order }
-    ensures found { IsTrue result → Spells page.now node.new }
+    ensures found { IsTrue result → PageSpells page.now node.new }
     ensures none { IsFalse result → (version : ℕ) → IsVersion version → (other : Node)
-        → SpellsIn version order page.now other → ⊥ }
+        → PageSpellsIn version order page.now other → ⊥ }
 {
     let (second, first) = (
         Kind {
@@ -48,8 +48,8 @@ fn spells_at(page: &[u8; PAGE_WIDTH], order: u16, node: &mut Node) -> bool
 /// Whether the page spells a node in a file of any kind, that kind first; `node` becomes it.
 pub fn is_whole(page: &[u8; PAGE_WIDTH], kind: Kind, node: &mut Node) -> bool
     requires { IsKind kind }
-    ensures found { IsTrue result → Spells page.now node.new }
-    ensures none { IsFalse result → (other : Node) → Spells page.now other → ⊥ }
+    ensures found { IsTrue result → PageSpells page.now node.new }
+    ensures none { IsFalse result → (other : Node) → PageSpells page.now other → ⊥ }
 {
     if spells_in(page, kind, node) {
         return true;

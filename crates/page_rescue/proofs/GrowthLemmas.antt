@@ -4,14 +4,14 @@ use Rattle.std.specs.Prelude.{IsSome}
 use Rattle.std.specs.FinMap.{get}
 use Rattle.rec_types.specs.Contents.{Contents, set_to, same_key}
 use Rattle.rec_types.proofs.ContentsLemmas.{get-set_to, get-set_to-here, same_key-is}
-use Rattle.page_rescue.specs.Rescue.{Grows, Is}
+use Rattle.page_rescue.specs.Rescue.{GrowsBy, Is}
 
 -- contents that stay the same grew from anywhere
-pub grows_not : {From : List ℕ → List ℕ → Type 0} (m : Contents) → Grows From m m
+pub grows_not : {From : List ℕ → List ℕ → Type 0} (m : Contents) → GrowsBy From m m
 grows_not m = record { stays = λ k v is. is; only = λ k v is. inl is }
 
 -- what grew twice grew
-pub grows_on : {From : List ℕ → List ℕ → Type 0} (a b c : Contents) → Grows From a b → Grows From b c → Grows From a c
+pub grows_on : {From : List ℕ → List ℕ → Type 0} (a b c : Contents) → GrowsBy From a b → GrowsBy From b c → GrowsBy From a c
 grows_on {From} a b c first next = record {
   stays = λ k v is. next.stays k v (first.stays k v is);
   only = λ k v is. at k v (next.only k v is);
@@ -22,7 +22,7 @@ grows_on {From} a b c first next = record {
     at k v (inr from) = inr from
 
 -- what grew from there grew from more
-pub grows_from : {From More : List ℕ → List ℕ → Type 0} (a b : Contents) → ((k v : List ℕ) → From k v → More k v) → Grows From a b → Grows More a b
+pub grows_from : {From More : List ℕ → List ℕ → Type 0} (a b : Contents) → ((k v : List ℕ) → From k v → More k v) → GrowsBy From a b → GrowsBy More a b
 grows_from {From} {More} a b more grew = record { stays = grew.stays; only = λ k v is. at k v (grew.only k v is) }
   where
     at : (k v : List ℕ) → (get a k ≡ Some v) ⊎ From k v → (get a k ≡ Some v) ⊎ More k v
@@ -30,7 +30,7 @@ grows_from {From} {More} a b more grew = record { stays = grew.stays; only = λ 
     at k v (inr from) = inr (more k v from)
 
 -- a record at a key that has none
-pub grows_by : (m : Contents) (key value : List ℕ) → get m key ≡ None → Grows (Is key value) m (set_to m key (Some value))
+pub grows_by : (m : Contents) (key value : List ℕ) → get m key ≡ None → GrowsBy (Is key value) m (set_to m key (Some value))
 grows_by m key value none = record {
   stays = λ k v is. stays (same_key k key) k v refl is;
   only = λ k v is. only (same_key k key) k v refl (sym (get-set_to m key (Some value) k) ∙ is);
@@ -48,7 +48,7 @@ grows_by m key value none = record {
     only false k v apart is = inl (ap (λ b. cond b (Some value) (get m k)) (sym apart) ∙ is)
 
 -- a key that had a record has one
-pub has_still : {From : List ℕ → List ℕ → Type 0} (a b : Contents) (key : List ℕ) → Grows From a b → IsSome (get a key) → IsSome (get b key)
+pub has_still : {From : List ℕ → List ℕ → Type 0} (a b : Contents) (key : List ℕ) → GrowsBy From a b → IsSome (get a key) → IsSome (get b key)
 has_still a b key grew some = at (get a key) refl some
   where
     at : (o : Option (List ℕ)) → get a key ≡ o → IsSome o → IsSome (get b key)
@@ -61,8 +61,8 @@ none_of None b is set = refl
 none_of (Some v) b is set = absurd (cc (is ∙ ap not set))
 
 -- a record that is put at a key that has none, by a call that changed nothing else
-pub grows_put : (old mid new : Contents) (key value : List ℕ) → get old key ≡ None → mid ≡ old → new ≡ set_to mid key (Some value) → Grows (Is key value) old new
-grows_put old mid new key value none same put = subst (Grows (Is key value) old) (sym (put ∙ ap (λ m. set_to m key (Some value)) same)) (grows_by old key value none)
+pub grows_put : (old mid new : Contents) (key value : List ℕ) → get old key ≡ None → mid ≡ old → new ≡ set_to mid key (Some value) → GrowsBy (Is key value) old new
+grows_put old mid new key value none same put = subst (GrowsBy (Is key value) old) (sym (put ∙ ap (λ m. set_to m key (Some value)) same)) (grows_by old key value none)
 
 -- that key has a record then
 pub has_put : (mid new : Contents) (key value : List ℕ) → new ≡ set_to mid key (Some value) → IsSome (get new key)

@@ -8,7 +8,7 @@ use Rattle.std.proofs.Math.Nat.{eq-or-lt_of_le}
 use Rattle.rec_types.specs.Contents.{Contents}
 use Rattle.page_store.specs.StoreCalls.{StaysStore}
 use Rattle.page_store.specs.declared.store_state.StoreState.{Ghosts}
-use Rattle.page_rescue.specs.Rescue.{Grows, HasPage, HasPageAt, HasPagesBelow, IsInPages, SavesBelow}
+use Rattle.page_rescue.specs.Rescue.{GrowsBy, HasPage, HasPageAt, HasPagesBelow, IsInPages, SavesBelow}
 use Rattle.page_rescue.specs.declared.rescue.Rescued.{Rescued}
 use Rattle.page_rescue.proofs.GrowthLemmas.{grows_on, has_still}
 
@@ -30,17 +30,17 @@ steady_on s a b stays steady = stays.steady ∙ steady
 
 -- contents that grow by what stands in the pages of a store, which is read on
 pub grows_more : {S : Type 0} (s : Ghosts S) (a b : S) (start old new : Contents) → StaysStore s a b
-    → (IsTrue (s.steady a) → Grows (IsInPages (s.pages a)) start old) → (IsTrue (s.steady b) → Grows (IsInPages (s.pages b)) old new)
-    → IsTrue (s.steady a) → Grows (IsInPages (s.pages a)) start new
+    → (IsTrue (s.steady a) → GrowsBy (IsInPages (s.pages a)) start old) → (IsTrue (s.steady b) → GrowsBy (IsInPages (s.pages b)) old new)
+    → IsTrue (s.steady a) → GrowsBy (IsInPages (s.pages a)) start new
 grows_more s a b start old new stays first next steady =
-    grows_on start old new (first steady) (subst (λ (pages : List (List ℕ)). Grows (IsInPages pages) old new) stays.pages (next (steady_on s a b stays steady)))
+    grows_on start old new (first steady) (subst (λ (pages : List (List ℕ)). GrowsBy (IsInPages pages) old new) stays.pages (next (steady_on s a b stays steady)))
 
 -- a page whose keys have records keeps them
-pub page_still : {From : List ℕ → List ℕ → Type 0} (old new : Contents) (page : List ℕ) → Grows From old new → HasPage old page → HasPage new page
+pub page_still : {From : List ℕ → List ℕ → Type 0} (old new : Contents) (page : List ℕ) → GrowsBy From old new → HasPage old page → HasPage new page
 page_still old new page grew has = λ other spelt. let was = has other spelt in (was.0, was.1, λ i within d. has_still old new _ grew (was.2 i within d))
 
 -- the pages below a number, and the page of that number
-pub pages_more : {From : List ℕ → List ℕ → Type 0} (pages : List (List ℕ)) (count : ℕ) (old new : Contents) → Grows From old new → HasPagesBelow count old pages → HasPageAt count new pages → HasPagesBelow (count + 1) new pages
+pub pages_more : {From : List ℕ → List ℕ → Type 0} (pages : List (List ℕ)) (count : ℕ) (old new : Contents) → GrowsBy From old new → HasPagesBelow count old pages → HasPageAt count new pages → HasPagesBelow (count + 1) new pages
 pages_more {From} pages count old new grew below here = λ n less. at n (eq-or-lt_of_le (below_or_at n count less))
   where
     below_or_at : (n count : ℕ) → n < count + 1 → n ≤ count
@@ -64,7 +64,7 @@ same_page contents read page is has = subst (HasPage contents) (inside read page
 
 -- what is saved by two passes over empty contents
 pub saves : {S : Type 0} (s : Ghosts S) (a b : S) (count : ℕ) (start old new : Contents) (saved : Rescued) → start ≡ empty → StaysStore s a b
-    → (IsTrue (s.steady a) → Grows (IsInPages (s.pages a)) start old) → (IsTrue (s.steady b) → Grows (IsInPages (s.pages b)) old new)
+    → (IsTrue (s.steady a) → GrowsBy (IsInPages (s.pages a)) start old) → (IsTrue (s.steady b) → GrowsBy (IsInPages (s.pages b)) old new)
     → (IsTrue (s.steady b) → IsTrue saved.complete → HasPagesBelow count new (s.pages b)) → saved.records.items ≡ entries new
     → IsTrue (s.steady a) → SavesBelow count (s.pages a) saved
 saves s a b count start old new saved is_empty stays first next all listed steady =

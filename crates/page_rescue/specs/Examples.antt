@@ -7,8 +7,8 @@ use Rattle.rec_types.specs.Contents.{Contents, set_to}
 abbrev pub a : List ℕ
 a = 97 ∷ []
 
-abbrev pub b : List ℕ
-b = 98 ∷ []
+abbrev pub key_b : List ℕ
+key_b = 98 ∷ []
 
 -- the records x and y
 abbrev pub x : List ℕ
@@ -25,5 +25,5 @@ abbrev pub y_at_a : Contents
 y_at_a = set_to maps.empty a (Some y)
 
 -- x at a, and y at b
-abbrev pub both : Contents
-both = set_to x_at_a b (Some y)
+abbrev pub x_and_y : Contents
+x_and_y = set_to x_at_a key_b (Some y)

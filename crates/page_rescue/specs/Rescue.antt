@@ -4,7 +4,7 @@ use Rattle.std.specs.FinMap.{get, entries}
 use Rattle.rec_types.specs.Contents.{Contents}
 use Rattle.btree_node.specs.Lists.{Element}
 use Rattle.btree_node.specs.declared.node.Node.{Node}
-use Rattle.page_looks.specs.Spelt.{Spells}
+use Rattle.page_looks.specs.Spelt.{PageSpells}
 use Rattle.page_rescue.specs.declared.rescue.Rescued.{Rescued}
 
 -- the record stands at the key among the elements
@@ -20,17 +20,17 @@ abbrev pub HasKeys : Contents → List Element → Type 0
 HasKeys contents es = (i : ℕ) → i < length es → (d : Element) → IsSome (get contents (slice_index_or es i d).0)
 
 -- contents that grew: what stood at a key still does, and what is new comes from there
-pub record Grows (From : List ℕ → List ℕ → Type 0) (old new : Contents) : Type 0 where
+pub record GrowsBy (From : List ℕ → List ℕ → Type 0) (old new : Contents) : Type 0 where
   pub stays : (key value : List ℕ) → get old key ≡ Some value → get new key ≡ Some value
   pub only : (key value : List ℕ) → get new key ≡ Some value → (get old key ≡ Some value) ⊎ From key value
 
 -- the record at the key stands in the page
 abbrev pub IsInPage : List ℕ → List ℕ → List ℕ → Type 0
-IsInPage page key value = (node : Node) × Spells page node × IsAmong node.elements.items key value
+IsInPage page key value = (node : Node) × PageSpells page node × IsAmong node.elements.items key value
 
 -- if the page is whole, each of its keys has a record
 abbrev pub HasPage : Contents → List ℕ → Type 0
-HasPage contents page = (other : Node) → Spells page other → (node : Node) × Spells page node × HasKeys contents node.elements.items
+HasPage contents page = (other : Node) → PageSpells page other → (node : Node) × PageSpells page node × HasKeys contents node.elements.items
 
 -- the record at the key stands in a page
 abbrev pub IsInPages : List (List ℕ) → List ℕ → List ℕ → Type 0

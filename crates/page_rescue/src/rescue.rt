@@ -1,7 +1,7 @@
 ghost use Rattle.std.specs.Prelude.{◌≡◌, ◌<◌, ◌≤◌, length, IsTrue, IfOk, OnOk};
 ghost use Rattle.page_store.specs.StoreCalls.{StaysStore};
 ghost use Rattle.page_looks.specs.Spelt.{IsKind};
-ghost use Rattle.page_rescue.specs.Rescue.{Grows, HasPage, HasPageAt, HasPagesBelow, IsInPage, IsInPages, Saves, SavesBelow};
+ghost use Rattle.page_rescue.specs.Rescue.{GrowsBy, HasPage, HasPageAt, HasPagesBelow, IsInPage, IsInPages, Saves, SavesBelow};
 
 use crate::taking::take_all;
 use btree_node::{Header, Node};
@@ -52,7 +52,7 @@ fn take_page(
 ) -> Result<(), RescueFault>
     requires { IsKind kind }
     ensures grows { OnOk result
-        (Grows (IsInPage page.now) table.old.contents table.new.contents) }
+        (GrowsBy (IsInPage page.now) table.old.contents table.new.contents) }
     ensures has { OnOk result (HasPage table.new.contents page.now) }
 {
     let mut node = Node::blank();
@@ -73,7 +73,7 @@ fn take_at<S: Store>(
     requires kind { IsKind kind }
     ensures stays { StaysStore S.StoreState store.old store.new }
     ensures grows { IsTrue (S.steady store.old) → OnOk result
-        (Grows (IsInPages (S.pages store.old)) table.old.contents table.new.contents) }
+        (GrowsBy (IsInPages (S.pages store.old)) table.old.contents table.new.contents) }
     ensures has { IsTrue (S.steady store.old) → IfOk result (λ was_read. IsTrue was_read
         → HasPageAt n table.new.contents (S.pages store.old)) }
 {
@@ -99,7 +99,7 @@ fn take_if_reached<S: Store>(
     requires kind { IsKind kind }
     ensures stays { StaysStore S.StoreState store.old store.new }
     ensures grows { IsTrue (S.steady store.old) → OnOk result
-        (Grows (IsInPages (S.pages store.old)) table.old.contents table.new.contents) }
+        (GrowsBy (IsInPages (S.pages store.old)) table.old.contents table.new.contents) }
 {
     match reached.get(n as usize) {
         Some(true) => {
@@ -122,7 +122,7 @@ fn take_reached<S: Store>(
     requires kind { IsKind kind }
     ensures stays { StaysStore S.StoreState store.old store.new }
     ensures grows { IsTrue (S.steady store.old) → OnOk result
-        (Grows (IsInPages (S.pages store.old)) table.old.contents table.new.contents) }
+        (GrowsBy (IsInPages (S.pages store.old)) table.old.contents table.new.contents) }
 {
     for n in 0..count {
         take_if_reached(store, n, table, kind, reached)?;
@@ -141,7 +141,7 @@ fn take_whole<S: Store>(
     requires kind { IsKind kind }
     ensures stays { StaysStore S.StoreState store.old store.new }
     ensures grows { IsTrue (S.steady store.old) → OnOk result
-        (Grows (IsInPages (S.pages store.old)) table.old.contents table.new.contents) }
+        (GrowsBy (IsInPages (S.pages store.old)) table.old.contents table.new.contents) }
     ensures has { IsTrue (S.steady store.old) → IfOk result (λ complete. IsTrue complete
         → HasPagesBelow count table.new.contents (S.pages store.old)) }
 {

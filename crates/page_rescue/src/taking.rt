@@ -1,6 +1,6 @@
 ghost use Rattle.std.specs.Prelude.{◌≡◌, ℕ, OnOk, IsSome};
 ghost use Rattle.std.specs.FinMap.{get};
-ghost use Rattle.page_rescue.specs.Rescue.{Grows, IsAmong, Is, HasKeys};
+ghost use Rattle.page_rescue.specs.Rescue.{GrowsBy, IsAmong, Is, HasKeys};
 
 use crate::rescue::RescueFault;
 use rec_types::{Key, Record, SortedTable, Table};
@@ -8,7 +8,7 @@ use rec_types::{Key, Record, SortedTable, Table};
 // Puts a record at its key, where none stands there.
 fn take(table: &mut SortedTable, key: &Key, value: &Record) -> Result<(), RescueFault>
     ensures grows { OnOk result
-        (Grows (Is key.now value.now) table.old.contents table.new.contents) }
+        (GrowsBy (Is key.now value.now) table.old.contents table.new.contents) }
     ensures has { OnOk result (IsSome (get table.new.contents key.now)) }
 {
     if table.get(key)?.is_none() {
@@ -23,7 +23,7 @@ pub(crate) fn take_all(
     elements: &[(Key, Record)],
 ) -> Result<(), RescueFault>
     ensures grows { OnOk result
-        (Grows (IsAmong elements.now) table.old.contents table.new.contents) }
+        (GrowsBy (IsAmong elements.now) table.old.contents table.new.contents) }
     ensures has { OnOk result (HasKeys table.new.contents elements.now) }
 {
     for element in elements {

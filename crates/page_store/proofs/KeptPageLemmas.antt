@@ -5,7 +5,7 @@ use Rattle.std.proofs.lemmas.List.{map-set}
 use Rattle.btree_node.specs.Spelling.{IsSpelt}
 use Rattle.page_store.specs.PageMap.{at}
 use Rattle.page_store.specs.Overlaid.{slots_of}
-use Rattle.page_store.specs.KeptPages.{AreSpelt}
+use Rattle.page_store.specs.KeptPages.{SlotsAreSpelt}
 
 bytes_or : List ℕ → Option (List ℕ) → List ℕ
 bytes_or other None = other
@@ -26,7 +26,7 @@ put_box {Z} items n q box kept is =
     put_slot (slots_of items) n q box.value kept
     (ap (λ (slots : List (Option (List ℕ))). at slots q) (sym (map-set (option_map (λ (page : Box (List ℕ) Z). page.value)) items n (Some box))) ∙ is)
 
-pub put_spelt : {Z : Type 0} (order : ℕ) (items : List (Option (Box (List ℕ) Z))) (n : ℕ) (box : Box (List ℕ) Z) → AreSpelt order (slots_of items) → IsSpelt order box.value → AreSpelt order (slots_of (set items n (Some box)))
+pub put_spelt : {Z : Type 0} (order : ℕ) (items : List (Option (Box (List ℕ) Z))) (n : ℕ) (box : Box (List ℕ) Z) → SlotsAreSpelt order (slots_of items) → IsSpelt order box.value → SlotsAreSpelt order (slots_of (set items n (Some box)))
 put_spelt {Z} order items n box all spelt q kept is =
     ⊎_elim (λ (was : at (slots_of items) q ≡ Some kept). all q kept was)
     (λ (new : (q ≡ n) × (kept ≡ box.value)). subst (λ (page : List ℕ). IsSpelt order page) (sym new.1) spelt)

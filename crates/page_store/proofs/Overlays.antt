@@ -3,7 +3,7 @@ use Rattle.std.proofs.Common.{◌≡◌, ◌≢◌, ℕ, ◌<◌, Bool, true, fa
 use Rattle.std.specs.List.{AllByRecursion}
 use Rattle.std.proofs.lemmas.Bool.{cases_eq, false≢true}
 use Rattle.std.proofs.lemmas.Bool.Decides.{nat_tests}
-use Rattle.page_store.specs.PageMap.{PageMap, at, write_page, overlay, free_all, is_written, is_freed}
+use Rattle.page_store.specs.PageMap.{PageMap, at, write_page, pages_with, free_all, is_written, is_freed}
 use Rattle.page_store.specs.Slots.{put_slots}
 
 -- what holds of each number that is written holds of one
@@ -43,7 +43,7 @@ not_freed pages [] n gone = refl
 not_freed pages (f ∷ freed) n gone = let parts = neither (eqb n f) (is_freed freed n) gone in rw parts.0 (not_freed pages freed n parts.1)
 
 -- a page that isn't written is as it was
-pub not_written : (pages : PageMap) (writes : List (ℕ × List ℕ)) (n : ℕ) → is_written writes n ≡ false → overlay pages writes n ≡ pages n
+pub not_written : (pages : PageMap) (writes : List (ℕ × List ℕ)) (n : ℕ) → is_written writes n ≡ false → pages_with pages writes n ≡ pages n
 not_written pages [] n gone = refl
 not_written pages (w ∷ writes) n gone =
     let parts = neither (eqb n w.0) (is_written writes n) gone in
@@ -58,7 +58,7 @@ slot_not_written slots (w ∷ writes) n gone =
     slot_not_written (set slots w.0 (Some w.1)) writes n parts.1 ∙ get_or-set_other slots w.0 n (Some w.1) None other
 
 -- a written page has bytes
-pub written_is_some : (pages : PageMap) (writes : List (ℕ × List ℕ)) (n : ℕ) → (IsSome (pages n)) ⊎ (is_written writes n ≡ true) → IsSome (overlay pages writes n)
+pub written_is_some : (pages : PageMap) (writes : List (ℕ × List ℕ)) (n : ℕ) → (IsSome (pages n)) ⊎ (is_written writes n ≡ true) → IsSome (pages_with pages writes n)
 written_is_some pages [] n (inl some) = some
 written_is_some pages [] n (inr here) = absurd (false≢true here)
 written_is_some pages (w ∷ writes) n h =
@@ -70,7 +70,7 @@ written_is_some pages (w ∷ writes) n h =
     (cases_eq n w.0)
 
 -- and its slot has them
-pub slot_written : (slots : List (Option (List ℕ))) (pages : PageMap) (writes : List (ℕ × List ℕ)) (n : ℕ) → n < length slots → (at slots n ≡ pages n) ⊎ (is_written writes n ≡ true) → at (put_slots slots writes) n ≡ overlay pages writes n
+pub slot_written : (slots : List (Option (List ℕ))) (pages : PageMap) (writes : List (ℕ × List ℕ)) (n : ℕ) → n < length slots → (at slots n ≡ pages n) ⊎ (is_written writes n ≡ true) → at (put_slots slots writes) n ≡ pages_with pages writes n
 slot_written slots pages [] n fits (inl same) = same
 slot_written slots pages [] n fits (inr here) = absurd (false≢true here)
 slot_written slots pages (w ∷ writes) n fits h =

@@ -3,7 +3,7 @@ use Rattle.std.proofs.Common.{◌≡◌, ◌≢◌, ℕ, ◌+◌, ◌<◌, ◌�
 use Rattle.std.specs.List.{range_with_len}
 use Rattle.std.proofs.lemmas.Bool.{cases_lt, false≢true}
 use Rattle.std.proofs.lemmas.List.Elements.{All-from_recursion}
-use Rattle.page_store.specs.PageMap.{at, overlay, after, is_written, is_freed}
+use Rattle.page_store.specs.PageMap.{at, pages_with, after, is_written, is_freed}
 use Rattle.page_store.specs.FreeNumbers.{count_after}
 use Rattle.page_store.specs.CanStage.{CanStage, IsTaken}
 use Rattle.page_store.specs.Overlaid.{is_among, or_else, page_at, pages_of, ArePages}
@@ -129,7 +129,7 @@ module _ (stored : List (List ℕ)) (slots : List (Option (List ℕ))) (free : L
         written_stays n true f here = absurd (false≢true (sym (at_freed (λ k. is_written writes k ≡ false) freed n can.freed_not_written f) ∙ here))
         written_stays n false f here = f
 
-        at_slot : (n : ℕ) → n < count2 → is_written writes n ≡ true → at slots2 n ≡ overlay (at (pages_of stored slots free count)) writes n
+        at_slot : (n : ℕ) → n < count2 → is_written writes n ≡ true → at slots2 n ≡ pages_with (at (pages_of stored slots free count)) writes n
         at_slot n below here =
             put n (written_stays n (is_freed freed n) refl here)
             ∙ slot_written slots1 (at (pages_of stored slots free count)) writes n (omega (arith, long (some_written writes n here))) (inr here)
@@ -142,7 +142,7 @@ module _ (stored : List (List ℕ)) (slots : List (Option (List ℕ))) (free : L
             let unwritten = at_freed (λ k. is_written writes k ≡ false) freed n can.freed_not_written here in
             let now_free = among n (is_among free n) true false refl here unwritten in
             outside stored slots2 free2 count2 n (λ h. false≢true (sym h.2 ∙ now_free ∙ or_true (is_among free n)))
-            ∙ sym (freed_is_none (overlay (at (pages_of stored slots free count)) writes) freed n here)
+            ∙ sym (freed_is_none (pages_with (at (pages_of stored slots free count)) writes) freed n here)
 
         staged_written : (n : ℕ) → is_freed freed n ≡ false → is_written writes n ≡ true → at (pages_of stored slots2 free2 count2) n ≡ after (at (pages_of stored slots free count)) writes freed n
         staged_written n kept here =
@@ -153,8 +153,8 @@ module _ (stored : List (List ℕ)) (slots : List (Option (List ℕ))) (free : L
             let some = written_is_some (at (pages_of stored slots free count)) writes n (inr here) in
             inside stored slots2 free2 count2 n (fit.0, below, used)
             ∙ ap (λ o. or_else o (slice_get stored n)) slot
-            ∙ or_else_first (overlay (at (pages_of stored slots free count)) writes n) (slice_get stored n) some
-            ∙ sym (not_freed (overlay (at (pages_of stored slots free count)) writes) freed n kept)
+            ∙ or_else_first (pages_with (at (pages_of stored slots free count)) writes n) (slice_get stored n) some
+            ∙ sym (not_freed (pages_with (at (pages_of stored slots free count)) writes) freed n kept)
 
         staged_other : (n : ℕ) → is_freed freed n ≡ false → is_written writes n ≡ false → at (pages_of stored slots2 free2 count2) n ≡ at (pages_of stored slots free count) n
         staged_other n kept unwritten =
@@ -174,7 +174,7 @@ module _ (stored : List (List ℕ)) (slots : List (Option (List ℕ))) (free : L
         staged_by n true here f w = staged_freed n f
         staged_by n false true f w = staged_written n f w
         staged_by n false false f w =
-            staged_other n f w ∙ sym (not_freed (overlay (at (pages_of stored slots free count)) writes) freed n f ∙ not_written (at (pages_of stored slots free count)) writes n w)
+            staged_other n f w ∙ sym (not_freed (pages_with (at (pages_of stored slots free count)) writes) freed n f ∙ not_written (at (pages_of stored slots free count)) writes n w)
 
         -- the pages after the edit
         staged : (n : ℕ) → at (pages_of stored slots2 free2 count2) n ≡ after (at (pages_of stored slots free count)) writes freed n

@@ -4,7 +4,7 @@ use Rattle.rec_types.specs.Table.{counted}
 use Rattle.page_store.specs.Calls.{counted_times, CountedUpTo}
 use Rattle.page_store.specs.Growth.{GrowsTo}
 use Rattle.page_store.specs.Guards.{AllowsAll}
-use Rattle.page_store.specs.Journal.{noted, NotesFront}
+use Rattle.page_store.specs.Journal.{noted_steps, NotesFront}
 use Rattle.page_store.specs.StoreFaults.{is_failed}
 use Rattle.page_store.specs.declared.step.Step.{Step}
 use Rattle.page_store.specs.declared.store_fault.StoreFault.{StoreFault}
@@ -19,7 +19,7 @@ pub record Carries {S A : Type 0} (s : Ghosts S) (calls : ℕ) (steps : List Ste
   pub writes : OnOk answer (s.writes new ≡ counted_times (s.writes old) calls)
   pub writes_err : OnErr answer (CountedUpTo calls (s.writes old) (s.writes new))
   pub failures : s.failures new ≡ counted (s.failures old) (is_failed answer)
-  pub journal : OnOk answer (s.journal new ≡ noted (s.journal old) steps)
+  pub journal : OnOk answer (s.journal new ≡ noted_steps (s.journal old) steps)
   pub journal_err : OnErr answer (NotesFront steps (s.journal old) (s.journal new))
   pub guard : AllowsAll (s.guard old) steps → s.guard new ≡ s.guard old
 

@@ -47,8 +47,8 @@ abbrev pub writes_of : {S : Type 0} → (S → ℕ) → FlakyStored S → ℕ
 writes_of writes s = min (writes s.inner + s.failed_writes) greatest_count
 
 -- how many calls failed, below and here; it stays at the greatest value of 64 bits
-abbrev pub failures_of : {S : Type 0} → (S → ℕ) → FlakyStored S → ℕ
-failures_of failures s = min (failures s.inner + (s.failed_reads + s.failed_writes)) greatest_count
+abbrev pub store_failures_of : {S : Type 0} → (S → ℕ) → FlakyStored S → ℕ
+store_failures_of failures s = min (failures s.inner + (s.failed_reads + s.failed_writes)) greatest_count
 
 -- a changing call: it fails where its number is in the list, and the store below isn't called; else it is one such call of that store, whose failure is handed on
 pub record PassesWrite {S A : Type 0} (s : Ghosts S) (old : FlakyStored S) (answer : Result A StoreFault) (new : FlakyStored S) : Type 0 where

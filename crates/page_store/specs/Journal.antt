@@ -31,13 +31,13 @@ untouched None = None
 untouched (Some j) = opened_before j.opened j.steps
 
 -- further calls, where the store keeps a journal
-abbrev pub noted : Option Journal → List Step → Option Journal
-noted None more = None
-noted (Some j) more = Some (record { opened = j.opened; steps = j.steps ++ more })
+abbrev pub noted_steps : Option Journal → List Step → Option Journal
+noted_steps None more = None
+noted_steps (Some j) more = Some (record { opened = j.opened; steps = j.steps ++ more })
 
 -- the first of these calls, and no more of them
 abbrev pub NotesFront : List Step → Option Journal → Option Journal → Type 0
-NotesFront all old new = (front : List Step) × (rest : List Step) × (all ≡ front ++ rest) × (new ≡ noted old front)
+NotesFront all old new = (front : List Step) × (rest : List Step) × (all ≡ front ++ rest) × (new ≡ noted_steps old front)
 
 -- the write of a page, where there is one
 abbrev pub write_of : ℕ → Option (List ℕ) → List Step

@@ -9,8 +9,8 @@ pub record KeptPages : Type 0 where
   pub slots : List (Option (List ℕ))
 
 -- each of them spells a node of the order
-abbrev pub AreSpelt : ℕ → List (Option (List ℕ)) → Type 0
-AreSpelt order slots = (n : ℕ) (page : List ℕ) → at slots n ≡ Some page → IsSpelt order page
+abbrev pub SlotsAreSpelt : ℕ → List (Option (List ℕ)) → Type 0
+SlotsAreSpelt order slots = (n : ℕ) (page : List ℕ) → at slots n ≡ Some page → IsSpelt order page
 
 -- each of them is the page of that number
 abbrev pub AreOf : List (List ℕ) → List (Option (List ℕ)) → Type 0

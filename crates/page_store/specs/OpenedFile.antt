@@ -14,5 +14,5 @@ pub record OpenedFile : Type 0 where
   pub failures : ℕ
 
 -- a file was opened, whose calls are counted from now on, or the call failed
-abbrev pub Opens : Result OpenedFile StoreFault → Type 0
-Opens result = IfOk result (λ store. (store.reads ≡ 0) × (store.shapes ≡ 0) × (store.writes ≡ 0) × (store.failures ≡ 0) × (store.tail < page_width)) × OnlyFails result
+abbrev pub OpensStore : Result OpenedFile StoreFault → Type 0
+OpensStore result = IfOk result (λ store. (store.reads ≡ 0) × (store.shapes ≡ 0) × (store.writes ≡ 0) × (store.failures ≡ 0) × (store.tail < page_width)) × OnlyFails result

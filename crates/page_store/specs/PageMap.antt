@@ -15,9 +15,9 @@ abbrev pub write_page : PageMap → ℕ → List ℕ → PageMap
 write_page pages n page q = if q == n then Some page else pages q
 
 -- pages written in order
-abbrev pub overlay : PageMap → List (ℕ × List ℕ) → PageMap
-overlay pages [] = pages
-overlay pages (w ∷ writes) = overlay (write_page pages w.0 w.1) writes
+abbrev pub pages_with : PageMap → List (ℕ × List ℕ) → PageMap
+pages_with pages [] = pages
+pages_with pages (w ∷ writes) = pages_with (write_page pages w.0 w.1) writes
 
 -- numbers freed
 abbrev pub free_all : PageMap → List ℕ → PageMap
@@ -26,7 +26,7 @@ free_all pages (n ∷ freed) q = if q == n then None else free_all pages freed q
 
 -- the pages after an edit
 abbrev pub after : PageMap → List (ℕ × List ℕ) → List ℕ → PageMap
-after pages writes freed = free_all (overlay pages writes) freed
+after pages writes freed = free_all (pages_with pages writes) freed
 
 -- whether an edit writes page q
 abbrev pub is_written : List (ℕ × List ℕ) → ℕ → Bool

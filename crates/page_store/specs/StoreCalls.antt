@@ -2,7 +2,7 @@
 use Rattle.std.specs.Prelude.{◌≡◌, Bool, true, not, [], ◌∷◌, Result, OnOk, OnErr, IsTrue}
 use Rattle.rec_types.specs.Table.{counted}
 use Rattle.page_store.specs.Guards.{allows}
-use Rattle.page_store.specs.Journal.{noted}
+use Rattle.page_store.specs.Journal.{noted_steps}
 use Rattle.page_store.specs.StoreFaults.{is_failed, AsksNoMemory}
 use Rattle.page_store.specs.declared.step.Step.{Step}
 use Rattle.page_store.specs.declared.step.Step.TheVariants.{SetPages, Write, Sync}
@@ -54,6 +54,6 @@ pub record ChangesStore {S A : Type 0} (s : Ghosts S) (step : Step) (old : S) (a
   pub writes : s.writes new ≡ counted (s.writes old) true
   pub failures : s.failures new ≡ counted (s.failures old) (is_failed answer)
   pub memory : AsksToGrow step answer
-  pub journal : OnOk answer (s.journal new ≡ noted (s.journal old) (step ∷ []))
+  pub journal : OnOk answer (s.journal new ≡ noted_steps (s.journal old) (step ∷ []))
   pub same_journal : OnErr answer (s.journal new ≡ s.journal old)
   pub guard : IsTrue (allows (s.guard old) step) → s.guard new ≡ s.guard old

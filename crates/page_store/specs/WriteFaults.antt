@@ -6,10 +6,10 @@ use Rattle.page_store.specs.declared.page_edit.WriteFault.{WriteFault}
 use Rattle.page_store.specs.declared.page_edit.WriteFault.TheVariants.{Device, Memory}
 
 -- whether a call of the store failed
-abbrev pub by_device : {X : Type 0} → Result X WriteFault → Bool
-by_device (Ok x) = false
-by_device (Err Device) = true
-by_device (Err Memory) = false
+abbrev pub write_by_device : {X : Type 0} → Result X WriteFault → Bool
+write_by_device (Ok x) = false
+write_by_device (Err Device) = true
+write_by_device (Err Memory) = false
 
 -- the fault that a fault of the store gives
 abbrev pub told : StoreFault → WriteFault

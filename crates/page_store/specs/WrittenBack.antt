@@ -6,10 +6,10 @@ use Rattle.page_store.specs.Calls.{counted_times, CountedUpTo, how_many}
 use Rattle.page_store.specs.FreeNumbers.{free_numbers}
 use Rattle.page_store.specs.Growth.{GrowsTo}
 use Rattle.page_store.specs.Guards.{AllowsAll}
-use Rattle.page_store.specs.Journal.{noted, NotesFront, writing_back}
+use Rattle.page_store.specs.Journal.{noted_steps, NotesFront, writing_back}
 use Rattle.page_store.specs.PageMap.{at}
 use Rattle.page_store.specs.PagesView.{PagesView, is_in_memory, memory_pages}
-use Rattle.page_store.specs.WriteFaults.{by_device}
+use Rattle.page_store.specs.WriteFaults.{write_by_device}
 use Rattle.page_store.specs.WritingBack.{AreStored}
 use Rattle.page_store.specs.declared.page_edit.WriteFault.{WriteFault}
 use Rattle.page_store.specs.declared.step.Step.{Step}
@@ -40,8 +40,8 @@ pub record GrowsAlone (old new : PagesView) : Type 0 where
 pub record CarriesOut (calls : ℕ) (steps : List Step) (old : PagesView) (answer : Result (Unit {0}) WriteFault) (new : PagesView) : Type 0 where
   pub writes : OnOk answer (new.writes ≡ counted_times old.writes calls)
   pub writes_err : OnErr answer (CountedUpTo calls old.writes new.writes)
-  pub failures : new.failures ≡ counted old.failures (by_device answer)
-  pub journal : OnOk answer (new.journal ≡ noted old.journal steps)
+  pub failures : new.failures ≡ counted old.failures (write_by_device answer)
+  pub journal : OnOk answer (new.journal ≡ noted_steps old.journal steps)
   pub journal_err : OnErr answer (NotesFront steps old.journal new.journal)
   pub guard : AllowsAll old.guard steps → new.guard ≡ old.guard
 

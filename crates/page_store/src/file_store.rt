@@ -1,7 +1,7 @@
 ghost use Rattle.std.specs.Prelude.{◌≡◌, ◌*◌, ◌<◌, ◌↔◌, [], IfOk, IsOk};
 ghost use Rattle.rec_types.specs.Table.{counted};
 ghost use Rattle.rec_types.specs.Widths.{page_width};
-ghost use Rattle.page_store.specs.OpenedFile.{Opens};
+ghost use Rattle.page_store.specs.OpenedFile.{OpensStore};
 ghost use Rattle.page_store.specs.StoreFaults.{is_failed, OnlyFails};
 
 use crate::count::count_up;
@@ -60,7 +60,7 @@ impl<F: SystemFile + Drop> FileStore<F> {
     /// Opens the file of that path to read and write it, and takes the lock that no other opening shares. Fault: Failed,
     /// as where there is no file or another opening has a lock.
     pub fn open_path<R: System<File = F>>(rt: &R, path: &str) -> Result<FileStore<F>, StoreFault>
-        ensures { Opens result }
+        ensures { OpensStore result }
     {
         let file = rt.open_update(path)?;
         file.try_lock()?;
@@ -70,7 +70,7 @@ impl<F: SystemFile + Drop> FileStore<F> {
     /// Opens the file of that path to read it, and takes the lock that other readers share; writes to the store fail.
     /// Fault: Failed, as where there is no file or a writer has a lock.
     pub fn open_to_read<R: System<File = F>>(rt: &R, path: &str) -> Result<FileStore<F>, StoreFault>
-        ensures { Opens result }
+        ensures { OpensStore result }
     {
         let file = rt.open_read(path)?;
         file.try_lock_shared()?;
@@ -117,7 +117,7 @@ impl<F: SystemFile + Drop> FileStore<F> {
 
     // A store over a file that was opened. Fault: Failed.
     fn over(file: F) -> Result<FileStore<F>, StoreFault>
-        ensures { Opens result }
+        ensures { OpensStore result }
     {
         let len = file.facts()?.len;
         Ok(FileStore {

@@ -6,7 +6,7 @@ ghost use Rattle.page_store.specs.Growth.{GrowsTo};
 ghost use Rattle.page_store.specs.StoreCalls.{LeavesStore, ChangesStore};
 ghost use Rattle.page_store.specs.declared.step.Step.{Step};
 ghost use Rattle.page_store.specs.StoreFaults.{is_failed};
-ghost use Rattle.page_store.specs.FlakyStored.{read_fails, write_fails, PassesWrite, with_read, with_write, reads_of, writes_of, failures_of};
+ghost use Rattle.page_store.specs.FlakyStored.{read_fails, write_fails, PassesWrite, with_read, with_write, reads_of, writes_of, store_failures_of};
 
 use crate::store::Store;
 use crate::store_fault::{Shape, StoreFault};
@@ -113,7 +113,7 @@ impl<S: Store> StoreState for FlakyStore<S> {
 
     ghost writes = { λ s. writes_of S.writes s };
 
-    ghost failures = { λ s. failures_of S.failures s };
+    ghost failures = { λ s. store_failures_of S.failures s };
 
     ghost journal = { λ s. S.journal s.inner };
 

@@ -15,14 +15,14 @@ pub(crate) struct KeptPages {
 }
 
 impl Model for KeptPages {
-    ghost use Rattle.page_store.specs.KeptPages.{KeptPages, AreSpelt};
+    ghost use Rattle.page_store.specs.KeptPages.{KeptPages, SlotsAreSpelt};
     ghost use Rattle.page_store.specs.Overlaid.{slots_of};
 
     ghost Value = { KeptPages };
 
     ghost view = { λ k. record { order = k.order; slots = slots_of k.slots.items } };
 
-    ghost invariant = { λ k. AreSpelt k.order (slots_of k.slots.items) };
+    ghost invariant = { λ k. SlotsAreSpelt k.order (slots_of k.slots.items) };
 }
 
 impl KeptPages {

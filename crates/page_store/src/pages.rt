@@ -8,7 +8,7 @@ ghost use Rattle.page_store.specs.PagesView.{CountsRead, OnlyReads, is_in_memory
 ghost use Rattle.page_store.specs.StoreUnder.{IsStoreOf};
 ghost use Rattle.page_store.specs.FreeNumbers.{free_numbers, candidate, count_after, greatest_page_count};
 ghost use Rattle.page_store.specs.CanStage.{CanStage};
-ghost use Rattle.page_store.specs.FetchFaults.{is_device};
+ghost use Rattle.page_store.specs.FetchFaults.{is_fetch_device};
 ghost use Rattle.page_store.specs.WritingBack.{KeepsOthers, Stopped};
 ghost use Rattle.page_store.specs.WrittenBack.{CarriesOut, GrowsAlone, IsWrittenBack, KeepsPages, calls_back, steps_back};
 ghost use Rattle.btree_node.specs.Spelling.{IsSpelt};
@@ -162,7 +162,7 @@ impl<S: Store> Pages<S> {
     pub fn fetch(&mut self, n: u32, to: &mut [u8; PAGE_WIDTH]) -> Result<(), FetchFault>
         ensures page { IsTrue self.old.steady → OnOk result (at self.old.pages n ≡ Some to.new) }
         ensures out_of_range { (result ≡ Err FetchFault.OutOfRange) ↔ (at self.old.pages n ≡ None) }
-        ensures device { self.new.failures ≡ counted self.old.failures (is_device result) }
+        ensures device { self.new.failures ≡ counted self.old.failures (is_fetch_device result) }
         ensures unchanged { OnlyReads self.old self.new }
         ensures nothing { at self.old.pages n ≡ None
             → (self.new ≡ self.old) × (to.new ≡ to.old) }

@@ -8,7 +8,7 @@ use Rattle.std.specs.Cmp.{nat_cmp_is, ranks}
 use Rattle.std.specs.Cmp.Lexicographic.{slice_cmp}
 use Rattle.byteorder.specs.Endian.{big_from, big_number}
 use Rattle.byteorder.specs.Numbers.{big_from-cons, big_from-lt}
-use Rattle.rec_types.specs.KeyBytes.{bytes_of, IsKey}
+use Rattle.rec_types.specs.KeyBytes.{key_bytes_of, IsKey}
 use Rattle.rec_types.specs.Padded.{padded, AreBytes}
 use Rattle.rec_types.specs.Taken.{length_taken}
 use Rattle.rec_types.specs.declared.key.Key.TheInside.{Inside}
@@ -130,18 +130,18 @@ less_by_number (suc w) (x ∷ xs) (y ∷ ys) low high less =
     (omega (arith, less, number-cons w x xs, number-cons w y ys))
 
 -- a key's fields as its padded bytes: their number, their length, and that they are bytes
-pub number_of_key : (n : ℕ) (k : Inside) → IsKey k → big_number n k.bytes ≡ big_number n (bytes_of k)
-number_of_key n k is = ap (big_number n) (sym is.zeros) ∙ number-padded n 16 (bytes_of k)
+pub number_of_key : (n : ℕ) (k : Inside) → IsKey k → big_number n k.bytes ≡ big_number n (key_bytes_of k)
+number_of_key n k is = ap (big_number n) (sym is.zeros) ∙ number-padded n 16 (key_bytes_of k)
 
-pub bytes_of_key : (k : Inside) → IsKey k → AreBytes k.bytes → AreBytes (bytes_of k)
-bytes_of_key k is bytes = bytes-padded 16 (bytes_of k) (λ i. omega (arith, bytes i, ap (λ (cells : List ℕ). slice_index cells i) is.zeros))
+pub bytes_of_key : (k : Inside) → IsKey k → AreBytes k.bytes → AreBytes (key_bytes_of k)
+bytes_of_key k is bytes = bytes-padded 16 (key_bytes_of k) (λ i. omega (arith, bytes i, ap (λ (cells : List ℕ). slice_index cells i) is.zeros))
 
-length_of_key : (k : Inside) → IsKey k → length (bytes_of k) ≡ k.len
+length_of_key : (k : Inside) → IsKey k → length (key_bytes_of k) ≡ k.len
 length_of_key k is = length_taken 16 k.len k.bytes is.most is.whole
 
 -- the order of keys, by their fields
 pub keys_in_numbers : (k l : Inside) → IsKey k → IsKey l → AreBytes k.bytes → AreBytes l.bytes
-    → ordering_then (nat_cmp (big_number 16 k.bytes) (big_number 16 l.bytes)) (nat_cmp k.len l.len) ≡ slice_cmp nat_cmp (bytes_of k) (bytes_of l)
+    → ordering_then (nat_cmp (big_number 16 k.bytes) (big_number 16 l.bytes)) (nat_cmp k.len l.len) ≡ slice_cmp nat_cmp (key_bytes_of k) (key_bytes_of l)
 keys_in_numbers k l is am low high =
     (λ i. ordering_then (nat_cmp (number_of_key 16 k is i) (number_of_key 16 l am i)) (nat_cmp (sym (length_of_key k is) i) (sym (length_of_key l am) i)))
-    ∙ sym (in_numbers 16 (bytes_of k) (bytes_of l) (bytes_of_key k is low) (bytes_of_key l am high) (omega (arith, is.most, length_of_key k is)) (omega (arith, am.most, length_of_key l am)))
+    ∙ sym (in_numbers 16 (key_bytes_of k) (key_bytes_of l) (bytes_of_key k is low) (bytes_of_key l am high) (omega (arith, is.most, length_of_key k is)) (omega (arith, am.most, length_of_key l am)))

@@ -6,8 +6,8 @@ use Rattle.rec_types.specs.Sorted.{Pairs, same_bytes}
 use Rattle.rec_types.specs.Slots.{AreInPlace, pairs_in, slot_at}
 use Rattle.rec_types.specs.declared.compact_map.CompactMap.TheInside.{Inside}
 
-abbrev pub entries_of : Inside → Pairs
-entries_of m = pairs_in m.slots.entries m.long.items
+abbrev pub compact_pairs_of : Inside → Pairs
+compact_pairs_of m = pairs_in m.slots.entries m.long.items
 
 -- there is room for one long record for each key, so that a record put at a key that is there takes no memory
 pub record IsCompact (m : Inside) : Type 0 where

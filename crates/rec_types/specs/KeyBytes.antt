@@ -5,8 +5,8 @@ use Rattle.rec_types.specs.Taken.{length_taken}
 use Rattle.rec_types.specs.Widths.{key_width}
 use Rattle.rec_types.specs.declared.key.Key.TheInside.{Inside}
 
-abbrev pub bytes_of : Inside → List ℕ
-bytes_of k = take k.len k.bytes
+abbrev pub key_bytes_of : Inside → List ℕ
+key_bytes_of k = take k.len k.bytes
 
 pub record IsKey (k : Inside) : Type 0 where
   pub some : 0 < k.len
@@ -14,8 +14,8 @@ pub record IsKey (k : Inside) : Type 0 where
   pub whole : length k.bytes ≡ key_width
   pub zeros : padded key_width (take k.len k.bytes) ≡ k.bytes
 
-abbrev pub fields_of : List ℕ → Inside
-fields_of bytes = record { bytes = padded key_width bytes; len = length bytes }
+abbrev pub key_fields_of : List ℕ → Inside
+key_fields_of bytes = record { bytes = padded key_width bytes; len = length bytes }
 
-pub fields_of_bytes : (k : Inside) → IsKey k → fields_of (bytes_of k) ≡ k
-fields_of_bytes k is i = record { bytes = is.zeros i; len = length_taken key_width k.len k.bytes is.most is.whole i }
+pub key_fields_of_bytes : (k : Inside) → IsKey k → key_fields_of (key_bytes_of k) ≡ k
+key_fields_of_bytes k is i = record { bytes = is.zeros i; len = length_taken key_width k.len k.bytes is.most is.whole i }

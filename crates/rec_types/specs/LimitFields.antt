@@ -6,8 +6,8 @@ use Rattle.rec_types.specs.declared.limits.Limits.TheInside.{Inside}
 abbrev pub bounds_of : Inside → Bounds
 bounds_of l = record { records = l.records; log_records = l.log_records; begins = l.begins }
 
-abbrev pub fields_of : Bounds → Inside
-fields_of b = record { records = b.records; log_records = b.log_records; begins = b.begins }
+abbrev pub limit_fields_of : Bounds → Inside
+limit_fields_of b = record { records = b.records; log_records = b.log_records; begins = b.begins }
 
 pub record AreLimits (l : Inside) : Type 0 where
   pub some_records : 1 ≤ l.records

@@ -33,9 +33,9 @@ impl Model for CompactMap {
 
     ghost coded = { coded_list (coded× (coded_list coded_ℕ) (coded_list coded_ℕ)) };
 
-    ghost use Rattle.rec_types.specs.CompactFields.{entries_of, IsCompact};
+    ghost use Rattle.rec_types.specs.CompactFields.{compact_pairs_of, IsCompact};
 
-    ghost view = { entries_of };
+    ghost view = { compact_pairs_of };
 
     ghost invariant = { IsCompact };
 }

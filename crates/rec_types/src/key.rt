@@ -36,15 +36,15 @@ impl Model for Key {
 
     ghost coded = { coded_list coded_ℕ };
 
-    ghost use Rattle.rec_types.specs.KeyBytes.{bytes_of, IsKey, fields_of, fields_of_bytes};
+    ghost use Rattle.rec_types.specs.KeyBytes.{key_bytes_of, IsKey, key_fields_of, key_fields_of_bytes};
 
-    ghost view = { bytes_of };
+    ghost view = { key_bytes_of };
 
     ghost invariant = { IsKey };
 
-    ghost inverse = { fields_of };
+    ghost inverse = { key_fields_of };
 
-    ghost inverse_ok = { fields_of_bytes };
+    ghost inverse_ok = { key_fields_of_bytes };
 }
 
 impl Key {

@@ -41,13 +41,13 @@ impl Model for Limits {
 
     ghost coded = { coded_bounds };
 
-    ghost use Rattle.rec_types.specs.LimitFields.{bounds_of, AreLimits, fields_of};
+    ghost use Rattle.rec_types.specs.LimitFields.{bounds_of, AreLimits, limit_fields_of};
 
     ghost view = { bounds_of };
 
     ghost invariant = { AreLimits };
 
-    ghost inverse = { fields_of };
+    ghost inverse = { limit_fields_of };
 }
 
 impl Limits {

@@ -31,15 +31,15 @@ impl Model for Record {
 
     ghost coded = { coded_list coded_ℕ };
 
-    ghost use Rattle.rec_types.specs.RecordBytes.{bytes_of, IsRecord, fields_of, fields_of_bytes};
+    ghost use Rattle.rec_types.specs.RecordBytes.{record_bytes_of, IsRecord, record_fields_of, record_fields_of_bytes};
 
-    ghost view = { bytes_of };
+    ghost view = { record_bytes_of };
 
     ghost invariant = { IsRecord };
 
-    ghost inverse = { fields_of };
+    ghost inverse = { record_fields_of };
 
-    ghost inverse_ok = { fields_of_bytes };
+    ghost inverse_ok = { record_fields_of_bytes };
 }
 
 impl Record {
@@ -148,15 +148,15 @@ impl Model for ShortRecord {
 
     ghost coded = { coded_list coded_ℕ };
 
-    ghost use Rattle.rec_types.specs.ShortBytes.{bytes_of, IsShortRecord, fields_of, fields_of_bytes};
+    ghost use Rattle.rec_types.specs.ShortBytes.{short_bytes_of, IsShortRecord, short_fields_of, short_fields_of_bytes};
 
-    ghost view = { bytes_of };
+    ghost view = { short_bytes_of };
 
     ghost invariant = { IsShortRecord };
 
-    ghost inverse = { fields_of };
+    ghost inverse = { short_fields_of };
 
-    ghost inverse_ok = { fields_of_bytes };
+    ghost inverse_ok = { short_fields_of_bytes };
 }
 
 impl ShortRecord {

@@ -5,7 +5,7 @@ use Rattle.rec_types.specs.Table.{counted, greatest_count}
 use Rattle.page_store.specs.Calls.{counted_times}
 use Rattle.page_store.specs.Guards.{Guard, Unguarded, Unsealed, Sealed, Stopped, SealsGuard}
 use Rattle.page_store.specs.StoreFaults.{is_failed}
-use Rattle.page_store.specs.WriteFaults.{by_device}
+use Rattle.page_store.specs.WriteFaults.{write_by_device}
 use Rattle.page_store.specs.declared.page_edit.WriteFault.{WriteFault}
 use Rattle.page_store.specs.declared.page_edit.WriteFault.TheVariants as closing
 use Rattle.page_store.specs.declared.store_fault.StoreFault.{StoreFault}
@@ -13,13 +13,13 @@ use Rattle.page_store.specs.declared.store_fault.StoreFault.TheVariants as stori
 use Rattle.page_journal.specs.KeptStores.{failures_with, guard_of}
 use Rattle.page_journal.specs.declared.seal_state.SealState.{SealState}
 use Rattle.page_journal.specs.declared.seal_state.SealState.TheVariants as states
-use Rattle.btree_delete.specs.CleanFile.{is_close_device_fault, is_device_fault}
+use Rattle.btree_delete.specs.CleanFile.{is_close_device_fault, is_open_device_fault}
 use Rattle.btree_delete.specs.declared.opening.open_fault.OpenFault.{OpenFault}
 use Rattle.btree_delete.specs.declared.opening.open_fault.OpenFault.TheVariants as opening
 use Rattle.page_journal.specs.Recovery.{is_device_fault as is_recovery_device}
 use Rattle.page_journal.specs.declared.recovery_fault.RecoveryFault.{RecoveryFault}
 use Rattle.page_journal.specs.declared.recovery_fault.RecoveryFault.TheVariants as recovering
-use Rattle.recfile.specs.FileFaults.{answer_of_store, fault_of_closing, fault_of_opening, fault_of_recovery, is_device, is_device_answer}
+use Rattle.recfile.specs.FileFaults.{answer_of_store, fault_of_closing, fault_of_opening, fault_of_recovery, is_file_device, is_device_answer}
 use Rattle.recfile.specs.Kept.{is_sealed, refused_calls}
 use Rattle.recfile.specs.declared.file_fault.FileFault.{FileFault}
 
@@ -102,11 +102,11 @@ by_change true changed idle = changed refl
 by_change false changed idle = idle refl
 
 -- the names of the faults
-pub device_of_closing : (fault : WriteFault) → is_close_device_fault fault ≡ is_device (fault_of_closing fault)
+pub device_of_closing : (fault : WriteFault) → is_close_device_fault fault ≡ is_file_device (fault_of_closing fault)
 device_of_closing closing.Device = refl
 device_of_closing closing.Memory = refl
 
-pub device_of_sealing : (fault : WriteFault) → by_device {X = Unit {0}} (Err fault) ≡ is_device (fault_of_closing fault)
+pub device_of_sealing : (fault : WriteFault) → write_by_device {X = Unit {0}} (Err fault) ≡ is_file_device (fault_of_closing fault)
 device_of_sealing closing.Device = refl
 device_of_sealing closing.Memory = refl
 
@@ -115,7 +115,7 @@ device_of_store (Ok done) = refl
 device_of_store (Err storing.Failed) = refl
 device_of_store (Err storing.Memory) = refl
 
-pub device_of_opening : (fault : OpenFault) → is_device_fault fault ≡ is_device (fault_of_opening fault)
+pub device_of_opening : (fault : OpenFault) → is_open_device_fault fault ≡ is_file_device (fault_of_opening fault)
 device_of_opening opening.Device = refl
 device_of_opening opening.BadLength = refl
 device_of_opening opening.BadMagic = refl
@@ -132,7 +132,7 @@ pub ok_told : (answer : Result (Unit {0}) StoreFault) (P : Type 0) → OnOk answ
 ok_told (Ok done) P known = known
 ok_told (Err fault) P known = tt
 
-pub device_of_recovery : (fault : RecoveryFault) → is_recovery_device fault ≡ is_device (fault_of_recovery fault)
+pub device_of_recovery : (fault : RecoveryFault) → is_recovery_device fault ≡ is_file_device (fault_of_recovery fault)
 device_of_recovery recovering.Device = refl
 device_of_recovery recovering.BadJournal = refl
 

@@ -25,7 +25,7 @@ use Rattle.command_text.specs.Dump.{put_of, dump_text, dump_commands, CanBePut}
 use Rattle.command_text.specs.Examples.{tx}
 use Rattle.command_text.specs.Grammar.{Read}
 use Rattle.command_text.specs.Refusals.{is_refusal}
-use Rattle.command_text.specs.Script.{entries_of}
+use Rattle.command_text.specs.Script.{commands_of}
 use Rattle.command_text.proofs.DumpLemmas.{dump_said}
 use Rattle.recfile.specs.Run.{ScriptTellsOf, HasReply, Session}
 
@@ -191,7 +191,7 @@ all_loaded old new es (answer ∷ replies) ran accepted sound =
     ∙ ap (λ (m : Contents). inserted m es) step.records
 
 -- a dump that is run over a file without records, with no refusal, gives its records
-pub dump_loaded : (old new : Seen) (records : Contents) (replies : List Reply) → IsTrue old.sound → old.records ≡ maps.empty → All CanBePut (maps.entries records) → Session old (entries_of (dump_text (maps.entries records))) replies new → All (λ r. is_refusal r ≡ false) replies → new.records ≡ records
+pub dump_loaded : (old new : Seen) (records : Contents) (replies : List Reply) → IsTrue old.sound → old.records ≡ maps.empty → All CanBePut (maps.entries records) → Session old (commands_of (dump_text (maps.entries records))) replies new → All (λ r. is_refusal r ≡ false) replies → new.records ≡ records
 dump_loaded old new records replies sound none can ran accepted =
     all_loaded old new (maps.entries records) replies (subst (λ (es : List (Read Command)). Session old es replies new) (dump_said (maps.entries records) can) ran) accepted sound
     ∙ ap (λ (m : Contents). inserted m (maps.entries records)) none

@@ -11,7 +11,7 @@ use Rattle.record_file.specs.Durable.{overlay}
 use Rattle.record_file.specs.Runs.{Event, IsKeptSeen, Run, Seen, undoubted}
 use Rattle.rec_types.specs.History.{Change}
 use Rattle.rec_types.specs.Kept.{history_of}
-use Rattle.tx_log.specs.Log.{is_change}
+use Rattle.tx_log.specs.Log.{tells_change}
 use Rattle.tx_log.specs.LogLaws.{change_told}
 use Rattle.tx_log.specs.Written.{own, writes}
 use Rattle.tx_log.specs.declared.log_record.LogRecord.{LogRecord}
@@ -33,7 +33,7 @@ all_found order contents kept doubted c none found =
     let all : found.0 ≡ kept = ⊎_elim (λ is. is) (λ is. is ∙ ap (λ (d : List (List Write)). kept ++ d) none ∙ append-nil kept) found.1 in
     subst (λ (ks : List (List Write)). Finds order (overlay contents (writes_in_turn ks)) c) all found.2
 
-one : (es : List Write) → writes_in_turn (es ∷ []) ≡ es
+pub one : (es : List Write) → writes_in_turn (es ∷ []) ≡ es
 one es = append-nil es
 
 pub answered_lost : (order : ℕ) (contents : Contents) (kept doubted : List (List Write)) (es : List Write) (c : Files) → kept ≡ es ∷ [] → doubted ≡ [] → overlay contents es ≢ contents → FindsEachCommit order contents kept doubted c → Finds order contents c → ⊥
@@ -96,7 +96,7 @@ doubt_unwritten old new es kept doubt none some =
     let grows = log_grows doubt.later (undoubted doubt.mid) (undoubted new) doubt.leads in
     let nothing : doubt.mid.log ≡ [] = no_front doubt.mid.log grows.0 (sym none ∙ grows.1) in
     let chained = (was_kept_seen doubt.later (undoubted doubt.mid) (undoubted new) kept doubt.leads).chained in
-    let unchanged : chained.0 ≡ [] = chained.1.told ∙ ap (λ (l : List LogRecord). map (change_told l) (filter is_change l)) nothing in
+    let unchanged : chained.0 ≡ [] = chained.1.told ∙ ap (λ (l : List LogRecord). map (change_told l) (filter tells_change l)) nothing in
     some (doubt.written ∙ ap (λ (h : List Change). writes (own doubt.tx h)) (sym chained.2 ∙ ap history_of unchanged))
 
 -- a commit that is kept is in the log

@@ -23,7 +23,7 @@ use Rattle.record_file.specs.Runs.{Event, Seen}
 use Rattle.record_file.proofs.CommitLemmas.{start_commits}
 use Rattle.recfile.specs.Beside.{FindsEach, FindsSome, FindsWhole, LeavesEnded, LeavesOpening, LosesNone}
 use Rattle.recfile.specs.DurableSession.{FindsCommits, FindsEachCommit, AreFirstCommits, IsBegunBeside, LeavesUnread}
-use Rattle.page_journal.specs.Crash.{StandsFor}
+use Rattle.page_journal.specs.Crash.{FilesStandFor}
 use Rattle.recfile.specs.Ending.{rest_of}
 use Rattle.recfile.specs.Kept.{opening_file}
 use Rattle.recfile.specs.Run.{SaysWrites}
@@ -285,7 +285,7 @@ only_head head (u ∷ us) front some =
     no_more [] rest is = refl
     no_more (u ∷ us) rest is = absurd (cc is)
 
-pub begun_unread : (opening : Opening) (c : Files) → IsBegunBeside opening → LeavesUnread opening c → StandsFor (opening_file opening) c × SaysNoneOr ((head_line (opening_file opening) ∷ []) ∷ []) c
+pub begun_unread : (opening : Opening) (c : Files) → IsBegunBeside opening → LeavesUnread opening c → FilesStandFor (opening_file opening) c × SaysNoneOr ((head_line (opening_file opening) ∷ []) ∷ []) c
 begun_unread opening c begun left = ⊎_elim
     (λ was. (
       was.0,

@@ -53,6 +53,9 @@ opening_kept old new is = (ap (λ (o : Origin). opening_file o.opening) is, ap (
 pub order_kept : (old new : TableView) → IsKeptBeside old new → new.tree.order ≡ old.tree.order
 order_kept old new is = ap (λ (o : Origin). o.order) is
 
+pub limit_kept : (old new : TableView) → IsKeptBeside old new → new.limit ≡ old.limit
+limit_kept old new is = ap (λ (o : Origin). o.limit) is
+
 -- the commit in doubt at the end is one of the session, where none was before
 pub doubt_is : (old new : Seen) (made : MakesCommits old new) → old.doubt ≡ [] → DoubtIs new.doubt (in_doubt made.doubted)
 doubt_is old new made none = at made.doubted

@@ -1,6 +1,7 @@
 -- A closed file has one list of records, and disks that no closing leaves.
 use Rattle.std.proofs.Common.{◌≡◌, ◌≢◌, ⊎_elim, inl, ℕ, zero, suc, ◌≤◌, Option, Some, None, List, [], ◌∷◌, length, get_or, slice_get, slice_set, unwrap_or, refl, ap, sym, ◌∙◌, subst, arith}
 use Rattle.std.proofs.lemmas.List.{set-get_or}
+use Rattle.rec_types.specs.LimitBounds.{most_records}
 use Rattle.rec_types.specs.Contents.{Contents}
 use Rattle.page_store.specs.PageMap.{PageMap}
 use Rattle.btree_node.specs.declared.header.Header.{Header}
@@ -25,16 +26,16 @@ use Rattle.btree_delete.specs.CleanFile.{in_file, HasTree}
 use Rattle.btree_delete.specs.TableView.{IsClosed}
 use Rattle.btree_delete.proofs.ClosedFileLemmas.{one_header}
 use Rattle.btree_delete.proofs.MeasureLemmas.{rooted_holds}
-use Rattle.page_journal.specs.Files.{PageFile, Kept, Files, Belongs, recovered, recovered_by}
-use Rattle.page_journal.specs.Crash.{StandsFor}
-use Rattle.page_journal.specs.Examples.{alone, old_file, pages_of_two, both_writes}
+use Rattle.page_journal.specs.Files.{PageFile, SideFile, Files, Belongs, recovered, recovered_by}
+use Rattle.page_journal.specs.Crash.{FilesStandFor}
+use Rattle.page_journal.specs.Examples.{without_side_file, old_file, pages_of_two, both_writes}
 use Rattle.page_journal.specs.History.{History, MayLeave}
 use Rattle.page_journal.specs.Steps.{TornAt}
 use Rattle.page_journal.specs.declared.disk_call.DiskCall.TheVariants.{Write}
 use Rattle.page_journal.specs.contracts.mem_disk.MemDiskDiskState.TheImpl.{ghosts}
 use Rattle.commit_paper.specs.Text.{units_of}
 use Rattle.recfile.specs.Kept.{HasRecords, IsKeptWith, LeavesEither, ClosesSafely}
-use Rattle.recfile.specs.LogOver.{Finds, FindsLog, HoldsRecords, head_line}
+use Rattle.recfile.specs.LogOver.{Finds, FindsLog, HoldsRecords, HoldsWithin, head_line}
 use Rattle.recfile.proofs.LogOverLemmas.{over_once}
 
 -- the first son is one
@@ -100,9 +101,12 @@ one_list v w stored tail t r records others closed again =
     ∙ again.records
 
 -- of either version, in trees of any orders
-pub held_once : (order later : ℕ) (records others : Contents) (file : PageFile) → HoldsRecords order records file → HoldsRecords later others file → records ≡ others
-held_once order later records others file held again =
+pub held_within_once : (limit order later : ℕ) (records others : Contents) (file : PageFile) → HoldsWithin limit order records file → HoldsWithin limit later others file → records ≡ others
+held_within_once limit order later records others file held again =
     one_list held.0 again.0 file.pages file.tail held.1 again.1 records others held.3 again.3
+
+pub held_once : (order later : ℕ) (records others : Contents) (file : PageFile) → HoldsRecords order records file → HoldsRecords later others file → records ≡ others
+held_once order later records others file held again = held_within_once most_records order later records others file held again
 
 pub one_order : (order later : ℕ) (records others : Contents) (file : PageFile) → HoldsRecords order records file → HoldsRecords later others file → order ≡ later
 one_order order later records others file held again =
@@ -142,12 +146,12 @@ not_written n d = record {
   commits = refl;
 }
 
-pub kept_unsynced : (main : PageFile) (page : List ℕ) (failures order : ℕ) (records : Contents) → slice_get main.pages 0 ≢ Some page → IsKeptWith ghosts order records (record { first = alone main; calls = Write 0 page ∷ []; failures = failures }) → ⊥
+pub kept_unsynced : (main : PageFile) (page : List ℕ) (failures order : ℕ) (records : Contents) → slice_get main.pages 0 ≢ Some page → IsKeptWith ghosts order records (record { first = without_side_file main; calls = Write 0 page ∷ []; failures = failures }) → ⊥
 kept_unsynced main page failures order records differs kept =
-    let left = kept.settled.crash (alone main) (alone main, refl, not_written 0 (alone main)) in
+    let left = kept.settled.crash (without_side_file main) (without_side_file main, refl, not_written 0 (without_side_file main)) in
     differs (ap (λ (m : PageFile). slice_get m.pages 0) left.0 ∙ set_first main.pages page kept.has.2.clean.begins.long.some)
 
-pub kept_with_side : (first : Files) (kept : Kept) (failures order : ℕ) (records : Contents) → first.side ≡ Some kept → IsKeptWith ghosts order records (record { first = first; calls = []; failures = failures }) → ⊥
+pub kept_with_side : (first : Files) (kept : SideFile) (failures order : ℕ) (records : Contents) → first.side ≡ Some kept → IsKeptWith ghosts order records (record { first = first; calls = []; failures = failures }) → ⊥
 kept_with_side first kept failures order records is closed = absurd (cc (sym is ∙ closed.settled.no_side))
 
 -- a page of one byte spells no header
@@ -161,22 +165,22 @@ not_closed order records has =
     short_page has.2.h header.fits (ap (λ (o : Option (List ℕ)). unwrap_or o []) header.page)
 
 -- the first of two writes is lost
-one_lost : MayLeave (alone old_file) both_writes (alone (pages_of_two 1 9))
-one_lost = (alone old_file, (alone old_file, refl, not_written 0 (alone old_file)), record { page = 9 ∷ []; main = refl; fresh = refl; side = refl; commits = refl })
+one_lost : MayLeave (without_side_file old_file) both_writes (without_side_file (pages_of_two 1 9))
+one_lost = (without_side_file old_file, (without_side_file old_file, refl, not_written 0 (without_side_file old_file)), record { page = 9 ∷ []; main = refl; fresh = refl; side = refl; commits = refl })
 
-pub left_third : (failures order : ℕ) (records : Contents) → LeavesEither ghosts old_file order records (record { first = alone old_file; calls = both_writes; failures = failures }) → ⊥
+pub left_third : (failures order : ℕ) (records : Contents) → LeavesEither ghosts old_file order records (record { first = without_side_file old_file; calls = both_writes; failures = failures }) → ⊥
 left_third failures order records leaves =
-    let c = alone (pages_of_two 1 9) in
-    ⊎_elim (λ (old : StandsFor old_file c). omega (arith, ap (λ (m : PageFile). get_or (get_or m.pages 1 []) 0 0) old.1))
+    let c = without_side_file (pages_of_two 1 9) in
+    ⊎_elim (λ (old : FilesStandFor old_file c). omega (arith, ap (λ (m : PageFile). get_or (get_or m.pages 1 []) 0 0) old.1))
     (λ (new : Belongs c × HasRecords order records (recovered c)). not_closed order records new.1)
     (leaves c (inl one_lost))
 
 pub left_foreign : (first : Files) (failures order : ℕ) (records : Contents) → (Belongs first → ⊥) → LeavesEither ghosts (recovered first) order records (record { first = first; calls = []; failures = failures }) → ⊥
 left_foreign first failures order records foreign leaves =
-    ⊎_elim (λ (old : StandsFor (recovered first) first). foreign old.0) (λ (new : Belongs first × HasRecords order records (recovered first)). foreign new.0) (leaves first refl)
+    ⊎_elim (λ (old : FilesStandFor (recovered first) first). foreign old.0) (λ (new : Belongs first × HasRecords order records (recovered first)). foreign new.0) (leaves first refl)
 
 pub closed_unwritten : (first : Files) (failures order later : ℕ) (records others : Contents) → HasRecords order records (recovered first) → records ≢ others → ClosesSafely ghosts (recovered first) (record { first = first; calls = []; failures = failures }) None later others → ⊥
 closed_unwritten first failures order later records others had differ safe =
     let kept = safe.kept refl in
-    let was = subst (HasRecords order records) (ap (λ (s : Option Kept). recovered_by s first.main) kept.settled.no_side) had in
+    let was = subst (HasRecords order records) (ap (λ (s : Option SideFile). recovered_by s first.main) kept.settled.no_side) had in
     differ (one_list 2 2 first.main.pages first.main.tail was.0 kept.has.0 records others was.2 kept.has.2)

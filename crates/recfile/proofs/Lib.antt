@@ -34,3 +34,4 @@ pub mod DurableLemmas
 pub mod DurableRunLemmas
 pub mod DurableExampleLemmas
 pub mod HeadLemmas
+pub mod FlushingLemmas

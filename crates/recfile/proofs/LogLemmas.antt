@@ -12,7 +12,7 @@ use Rattle.command_text.specs.declared.command.Command.{Command}
 use Rattle.command_text.specs.declared.command.Command.TheVariants as command
 use Rattle.command_text.specs.Examples.{tx}
 use Rattle.command_text.specs.Grammar.{Read, line_of}
-use Rattle.command_text.specs.Script.{HasNoLf, is_lf, keep, without_empty_last, lines_of, entries_in, entries_of}
+use Rattle.command_text.specs.Script.{HasNoLf, is_lf, keep, without_empty_last, lines_of, entries_in, commands_of}
 use Rattle.command_text.specs.Units.{Write, change_command, write_command, unit_commands}
 use Rattle.recfile.specs.Overlaid.{write_said, writes_said, IsLogCommand, SayWrites, writes_in_turn}
 use Rattle.recfile.proofs.ScriptCutLemmas.{first_stays}
@@ -49,15 +49,15 @@ entries_front (line ∷ lines) rest =
     ap (keep (line_of line)) (entries_front lines rest)
     ∙ keep_front (line_of line) (entries_in lines) (entries_in rest)
 
-pub log_said : (units : List (List (List ℕ))) → AreUnits units → entries_of (log_text units) ≡ flat_map entries_in units
+pub log_said : (units : List (List (List ℕ))) → AreUnits units → commands_of (log_text units) ≡ flat_map entries_in units
 log_said [] are = refl
 log_said (unit ∷ units) are =
     ap entries_in (unit_first unit (log_text units) are.0)
     ∙ entries_front unit (lines_of (log_text units))
     ∙ ap (λ (es : List (Read Command)). entries_in unit ++ es) (log_said units are.1)
 
-pub unit_said : (unit : List (List ℕ)) → IsUnit unit → entries_of (unit_text unit) ≡ entries_in unit
-unit_said unit is = ap entries_of (sym (append-nil (unit_text unit))) ∙ log_said (unit ∷ []) (is, tt) ∙ append-nil (entries_in unit)
+pub unit_said : (unit : List (List ℕ)) → IsUnit unit → commands_of (unit_text unit) ≡ entries_in unit
+unit_said unit is = ap commands_of (sym (append-nil (unit_text unit))) ∙ log_said (unit ∷ []) (is, tt) ∙ append-nil (entries_in unit)
 
 -- what the commands of a unit write
 change_writes : (n : ℕ) (key : List ℕ) (value : Option (List ℕ)) → write_said (Ok (change_command n key value)) ≡ (key, value) ∷ []
@@ -90,7 +90,7 @@ those_logged n (w ∷ ws) = All-cons IsLogCommand (Ok (write_command n w)) (map 
 pub unit_logged : (n : ℕ) (es : List Write) → All IsLogCommand (unit_commands n es)
 unit_logged n es = All-cons IsLogCommand (Ok command.Begin) (map (λ w. Ok (write_command n w)) es ++ Ok (command.Commit (tx n)) ∷ []) tt (those_logged n es)
 
-pub log_found : (units : List (List (List ℕ))) (kept : List (List Write)) → AreUnits units → SayWrites units kept → writes_said (entries_of (log_text units)) ≡ writes_in_turn kept
+pub log_found : (units : List (List (List ℕ))) (kept : List (List Write)) → AreUnits units → SayWrites units kept → writes_said (commands_of (log_text units)) ≡ writes_in_turn kept
 log_found units kept are say = ap writes_said (log_said units are) ∙ log_writes units kept say
 
 -- what they don't say
@@ -119,7 +119,7 @@ not_newest same =
     let heads : 97 ≡ 98 = ap first_of same in
     absurd (omega (arith, heads))
 
-pub found_in_order : (units : List (List (List ℕ))) → AreUnits units → SayWrites units both → writes_said (entries_of (log_text units)) ≡ newest → ⊥
+pub found_in_order : (units : List (List (List ℕ))) → AreUnits units → SayWrites units both → writes_said (commands_of (log_text units)) ≡ newest → ⊥
 found_in_order units are say others = not_newest (sym (log_found units both are say) ∙ others)
 
 pub open_unit : AreUnits ((codes "begin" ∷ codes "del 1 a" ∷ []) ∷ []) → ⊥

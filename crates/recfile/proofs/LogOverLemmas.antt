@@ -13,7 +13,7 @@ use Rattle.rec_types.specs.Contents.{Contents, set_to, same_key}
 use Rattle.rec_types.proofs.ContentsLemmas.{same_contents, get-set_to-there, same_key-is}
 use Rattle.commit_paper.specs.Text.{log_text, AreUnits, closes}
 use Rattle.command_text.specs.Grammar.{Read}
-use Rattle.command_text.specs.Script.{lines_of, entries_in, entries_of}
+use Rattle.command_text.specs.Script.{lines_of, entries_in, commands_of}
 use Rattle.command_text.specs.Units.{Write, unit_commands}
 use Rattle.command_text.specs.declared.command.Command.{Command}
 use Rattle.record_file.specs.Durable.{overlay}
@@ -84,7 +84,7 @@ others_of [] = []
 others_of (x ∷ xs) = xs
 
 -- the first line of a log whose first unit is that line, and what the units behind it say
-pub cut_head : (first : List ℕ) (us : List (List (List ℕ))) (text line rest : List ℕ) → AreUnits ((first ∷ []) ∷ us) → text ≡ log_text ((first ∷ []) ∷ us) → lines_of text ≡ line ∷ lines_of rest → (line ≡ first) × (entries_of rest ≡ said_by us)
+pub cut_head : (first : List ℕ) (us : List (List (List ℕ))) (text line rest : List ℕ) → AreUnits ((first ∷ []) ∷ us) → text ≡ log_text ((first ∷ []) ∷ us) → lines_of text ≡ line ∷ lines_of rest → (line ≡ first) × (commands_of rest ≡ said_by us)
 cut_head first us text line rest are is cut =
     let both = sym cut ∙ ap lines_of is ∙ unit_first (first ∷ []) (log_text us) are.0 in (
       ap (first_of []) both,
@@ -95,7 +95,7 @@ cut_head first us text line rest are is cut =
 head_closes : (line : List ℕ) → IsHead line → closes line ≡ true
 head_closes line is = ap closes is.1
 
-pub first_unit : (units : List (List (List ℕ))) (text line rest : List ℕ) → AreUnits units → text ≡ log_text units → 0 < length text → lines_of text ≡ line ∷ lines_of rest → IsHead line → (us : List (List (List ℕ))) × (units ≡ (line ∷ []) ∷ us) × (entries_of rest ≡ said_by us)
+pub first_unit : (units : List (List (List ℕ))) (text line rest : List ℕ) → AreUnits units → text ≡ log_text units → 0 < length text → lines_of text ≡ line ∷ lines_of rest → IsHead line → (us : List (List (List ℕ))) × (units ≡ (line ∷ []) ∷ us) × (commands_of rest ≡ said_by us)
 first_unit [] text line rest are is some cut head = absurd (omega (arith, ap length is, some))
 first_unit ([] ∷ us) text line rest are is some cut head = absurd are.0
 first_unit ((first ∷ []) ∷ us) text line rest are is some cut head =
@@ -106,7 +106,7 @@ first_unit ((first ∷ next ∷ lines) ∷ us) text line rest are is some cut he
     absurd (false≢true (sym are.0.1 ∙ ap closes (sym same) ∙ head_closes line head))
 
 -- units that are put over records have a first line of this version
-pub found_head : (head : List ℕ) (under records : Contents) (units : List (List (List ℕ))) (text line rest : List ℕ) → AreUnits units → text ≡ log_text units → lines_of text ≡ line ∷ lines_of rest → IsLogOver head under records units → IsHead line × SayOver under (entries_of rest) records × ((line ≡ head) ⊎ (records ≡ under))
+pub found_head : (head : List ℕ) (under records : Contents) (units : List (List (List ℕ))) (text line rest : List ℕ) → AreUnits units → text ≡ log_text units → lines_of text ≡ line ∷ lines_of rest → IsLogOver head under records units → IsHead line × SayOver under (commands_of rest) records × ((line ≡ head) ⊎ (records ≡ under))
 found_head head under records [] text line rest are is cut over = absurd over
 found_head head under records ([] ∷ us) text line rest are is cut over = absurd over
 found_head head under records ((first ∷ []) ∷ us) text line rest are is cut over =
@@ -141,7 +141,7 @@ over_again head later under records ((first ∷ []) ∷ us) over =
 over_again head later under records ((first ∷ next ∷ lines) ∷ us) over = over
 
 -- commands that are put over records, behind a first line of this version
-pub over_first : (head : List ℕ) (under records : Contents) (units : List (List (List ℕ))) (text line rest : List ℕ) → AreUnits units → text ≡ log_text units → 0 < length text → lines_of text ≡ line ∷ lines_of rest → IsHead line → SayOver under (entries_of rest) records → (line ≡ head) ⊎ (records ≡ under) → IsLogOver head under records units
+pub over_first : (head : List ℕ) (under records : Contents) (units : List (List (List ℕ))) (text line rest : List ℕ) → AreUnits units → text ≡ log_text units → 0 < length text → lines_of text ≡ line ∷ lines_of rest → IsHead line → SayOver under (commands_of rest) records → (line ≡ head) ⊎ (records ≡ under) → IsLogOver head under records units
 over_first head under records units text line rest are is some cut is_head say tied =
     let has = first_unit units text line rest are is some cut is_head in
     subst (IsLogOver head under records) (sym has.1) (record {

@@ -11,7 +11,7 @@ use Rattle.command_text.specs.declared.command.Command.{Command}
 use Rattle.command_text.specs.declared.command.LineFault.{LineFault}
 use Rattle.command_text.specs.Grammar.{Read}
 use Rattle.recfile.specs.Beside.{IsOverlayFault, IsTableOutside, IsUnput}
-use Rattle.recfile.specs.FileFaults.{fault_of_listing, fault_of_overlay, is_device}
+use Rattle.recfile.specs.FileFaults.{fault_of_listing, fault_of_overlay, is_file_device}
 use Rattle.recfile.specs.declared.file_fault.FileFault.{FileFault}
 use Rattle.recfile.specs.Overlaid.{IsLogCommand, line_entries}
 use Rattle.recfile.specs.declared.overlaying.OverlayFault.{OverlayFault}
@@ -29,16 +29,16 @@ overlay_part Part Whole overlaying.Line part why = λ whole. why (part whole)
 overlay_part Part Whole (overlaying.Table fault) part why = why
 
 -- whether the device failed
-device_of_overlay : (A : Type 0) (fault : TableFault) → table_device {A = A} (Err fault) ≡ is_device (fault_of_overlay (overlaying.Table fault))
+device_of_overlay : (A : Type 0) (fault : TableFault) → table_device {A = A} (Err fault) ≡ is_file_device (fault_of_overlay (overlaying.Table fault))
 device_of_overlay A tables.Device = refl
 device_of_overlay A (tables.Damaged page) = refl
 device_of_overlay A tables.NoRoom = refl
 device_of_overlay A tables.Memory = refl
 
-pub overlay_counts : {T A : Type 0} (t : Ghosts T) (old new : T) (fault : TableFault) → Answered {A = A} t old (Err fault) new → t.device_failures new ≡ counted (t.device_failures old) (is_device (fault_of_overlay (overlaying.Table fault)))
+pub overlay_counts : {T A : Type 0} (t : Ghosts T) (old new : T) (fault : TableFault) → Answered {A = A} t old (Err fault) new → t.device_failures new ≡ counted (t.device_failures old) (is_file_device (fault_of_overlay (overlaying.Table fault)))
 overlay_counts {T} {A} t old new fault answered = answered.device ∙ ap (counted (t.device_failures old)) (device_of_overlay A fault)
 
-pub device_of_listing : (A : Type 0) (fault : TableFault) → table_device {A = A} (Err fault) ≡ is_device (fault_of_listing fault)
+pub device_of_listing : (A : Type 0) (fault : TableFault) → table_device {A = A} (Err fault) ≡ is_file_device (fault_of_listing fault)
 device_of_listing A tables.Device = refl
 device_of_listing A (tables.Damaged page) = refl
 device_of_listing A tables.NoRoom = refl

@@ -39,7 +39,7 @@ use Rattle.command_text.specs.Dump.{CanBePut, dump_commands, dump_text, put_of}
 use Rattle.command_text.specs.Examples.{tx}
 use Rattle.command_text.specs.Grammar.{Read}
 use Rattle.command_text.specs.Refusals.{is_refusal}
-use Rattle.command_text.specs.Script.{entries_of}
+use Rattle.command_text.specs.Script.{commands_of}
 use Rattle.command_text.proofs.DumpLemmas.{dump_said}
 use Rattle.recfile.specs.Room.{HasRoomFor, was_kept}
 use Rattle.recfile.specs.Run.{ScriptTellsOf, Session}
@@ -318,6 +318,6 @@ all_accepted limits es old new (answer ∷ replies) is sound few room ran kept =
 
 -- a dump that is run over a new file with room for it has no refusal
 pub dump_accepted : (limits : Bounds) (old new : Seen) (records : Contents) (replies : List Reply) → old.file ≡ new_file maps.empty limits → IsTrue old.sound → old.failures < greatest_count → All CanBePut (maps.entries records)
-    → HasRoomFor (length (maps.entries records)) limits → Session old (entries_of (dump_text (maps.entries records))) replies new → Unkept replies → Accepted replies
+    → HasRoomFor (length (maps.entries records)) limits → Session old (commands_of (dump_text (maps.entries records))) replies new → Unkept replies → Accepted replies
 dump_accepted limits old new records replies is sound few can room ran kept =
     all_accepted limits (maps.entries records) old new replies is sound few room (subst (λ (es : List (Read Command)). Session old es replies new) (dump_said (maps.entries records) can) ran) kept

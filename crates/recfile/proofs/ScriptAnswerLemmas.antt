@@ -3,11 +3,11 @@ use Rattle.std.proofs.Common.{◌≡◌, ℕ, Bool, true, false, List, Option, R
 use Rattle.std.specs.List.{flat_map}
 use Rattle.std.specs.Io.KnownBytes.{Appends}
 use Rattle.command_text.specs.declared.reply.Reply.{Reply}
-use Rattle.command_text.specs.Script.{entries_of}
+use Rattle.command_text.specs.Script.{commands_of}
 use Rattle.command_text.specs.Texts.{text_of}
 use Rattle.record_file.specs.Runs.{Seen}
 use Rattle.recfile.specs.declared.script.RunFault.{RunFault}
-use Rattle.recfile.specs.declared.script.RunFault.TheVariants.{Script, Refused}
+use Rattle.recfile.specs.declared.script.RunFault.TheVariants.{Script, Refused, Flush}
 use Rattle.recfile.specs.declared.script.ScriptFault.{ScriptFault}
 use Rattle.recfile.specs.Run.{Session, Finished, Faulted, AcceptedIf, LinesStop, NotRefused, Ran, run_of, commands}
 use Rattle.recfile.specs.Whole.{IsWhole}
@@ -17,6 +17,8 @@ pub not_refused : (ran : Result ℕ RunFault) (left leaves held holds : Option (
 not_refused (Ok done) left leaves held holds old new is = tt
 not_refused (Err (Script fault)) left leaves held holds old new is = tt
 not_refused (Err (Refused line)) left leaves held holds old new (inl unread) = unread.0
+not_refused (Err Flush) left leaves held holds old new (inl unread) = unread.0
+not_refused (Err Flush) left leaves held holds old new (inr stopped) = stopped.2
 not_refused (Err (Refused line)) left leaves held holds old new (inr stopped) = absurd (never stopped.2.0)
   where
     never : false ≡ true → ⊥
@@ -39,7 +41,7 @@ faulted_by answer ran left leaves held holds old new is known = faulted_as answe
 
 -- a script that was read, and its lines
 pub ran_lines : (strict : Bool) (answer : Result ℕ RunFault) (left leaves held holds : Option (List ℕ)) (old new : Seen) (text script : List ℕ) → text ≡ script → IsWhole left leaves script
-    → IfOk answer (λ done. (replies : List Reply) × Session old (entries_of text) replies new × Appends held holds (flat_map text_of replies) × (done ≡ commands (entries_of text)) × AcceptedIf strict replies)
+    → IfOk answer (λ done. (replies : List Reply) × Session old (commands_of text) replies new × Appends held holds (flat_map text_of replies) × (done ≡ commands (commands_of text)) × AcceptedIf strict replies)
     → IfErr answer (LinesStop strict held holds old new text) → Ran strict left leaves held holds old new answer
 ran_lines strict (Ok done) left leaves held holds old new text script is whole ok err = ((text, ok.0, subst (IsWhole left leaves) (sym is) whole, ok.1, ok.2, ok.3), ok.4)
 ran_lines strict (Err fault) left leaves held holds old new text script is whole ok err = inr (text, subst (IsWhole left leaves) (sym is) whole, err)

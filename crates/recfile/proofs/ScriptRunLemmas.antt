@@ -11,7 +11,7 @@ use Rattle.command_text.specs.declared.command.Command.{Command}
 use Rattle.command_text.specs.declared.reply.Reply.{Reply}
 use Rattle.command_text.specs.Grammar.{Read, line_of}
 use Rattle.command_text.specs.Refusals.{is_refusal}
-use Rattle.command_text.specs.Script.{lines_of, entries_in, entries_of, keep}
+use Rattle.command_text.specs.Script.{lines_of, entries_in, commands_of, keep}
 use Rattle.command_text.specs.Texts.{text_of}
 use Rattle.recfile.specs.Run.{HasReply, LineHasReply, Session, Served, IsUnsent, AcceptedIf, LinesStop, RefusedAt, is_command, says_command, commands}
 use Rattle.record_file.specs.Runs.{Seen}
@@ -130,7 +130,7 @@ refused_at held holds script rest after line old mid new replies done lines said
 }
 
 -- all was run where nothing is left
-pub served-all : (script rest : List ℕ) (old new : Seen) (replies : List Reply) (done : ℕ) → Served script rest old replies new done → entries_of rest ≡ [] → Session old (entries_of script) replies new × (done ≡ commands (entries_of script))
+pub served-all : (script rest : List ℕ) (old new : Seen) (replies : List Reply) (done : ℕ) → Served script rest old replies new done → commands_of rest ≡ [] → Session old (commands_of script) replies new × (done ≡ commands (commands_of script))
 served-all script rest old new replies done served over =
     let all = sym (served.split ∙ ap (λ es. served.front ++ es) over ∙ append-nil served.front) in
     (subst (λ es. Session old es replies new) all served.ran, served.count ∙ ap commands all)
@@ -172,6 +172,6 @@ pub lines_fit : (lines rest after limit : ℕ) → lines + rest ≤ limit → af
 lines_fit lines rest after limit fits lt = omega (arith, fits, lt)
 
 -- where no bytes are left there are no lines
-pub nothing_left : (rest : List ℕ) → true ≡ (length rest == 0) → entries_of rest ≡ []
+pub nothing_left : (rest : List ℕ) → true ≡ (length rest == 0) → commands_of rest ≡ []
 nothing_left [] is = refl
 nothing_left (b ∷ rest) is = absurd (grind (arith, nat_tests))

@@ -2,8 +2,8 @@
 use Rattle.std.proofs.Common.{◌≡◌, ⊎_elim, inl, inr, ℕ, ◌≤◌, Bool, true, false, List, Option, Some, None, Result, Ok, Err, refl, sym, ap, subst, ◌∙◌, arith}
 use Rattle.rec_types.specs.Contents.{Contents}
 use Rattle.page_store.specs.Opening.{Opening}
-use Rattle.page_journal.specs.Files.{PageFile, Kept, Files, BelongsTo, Belongs, recovered, recovered_by}
-use Rattle.page_journal.specs.Crash.{IsSettled, LeavesOnly, LeavesPages, StandsAs, StandsFor, pages_of}
+use Rattle.page_journal.specs.Files.{PageFile, SideFile, Files, BelongsTo, Belongs, recovered, recovered_by}
+use Rattle.page_journal.specs.Crash.{IsSettled, LeavesOnly, LeavesPages, StandsAs, FilesStandFor, pages_of}
 use Rattle.page_journal.specs.Logging.{HasLogOf, HasNoLog}
 use Rattle.page_journal.specs.LoggedStores.{FindsAll, FindsNow, MayFind}
 use Rattle.page_journal.specs.declared.disk_state.DiskState.{Ghosts}
@@ -58,9 +58,9 @@ whole_same : (logged : Bool) (log : Option (List ℕ)) (units : Units) (c d : Fi
 whole_same false log units c d is finds = is ∙ finds
 whole_same true log units c d is finds = (finds.0, is ∙ finds.1, finds.2)
 
-stands_same : (main : PageFile) (c d : Files) → pages_of c ≡ pages_of d → StandsFor main d → StandsFor main c
+stands_same : (main : PageFile) (c d : Files) → pages_of c ≡ pages_of d → FilesStandFor main d → FilesStandFor main c
 stands_same main c d same stands =
-    subst (λ (k : PageFile × (Kept × Option Kept)). BelongsTo k.1.1 k.0.pages × (recovered_by k.1.1 k.0 ≡ main)) (sym same) stands
+    subst (λ (k : PageFile × (SideFile × Option SideFile)). BelongsTo k.1.1 k.0.pages × (recovered_by k.1.1 k.0 ≡ main)) (sym same) stands
 
 some_same : (logged : Bool) (log : Option (List ℕ)) (units : Units) (doubt : List ℕ) (c d : Files) → c.commits.log ≡ d.commits.log → FindsSome logged log units doubt d → FindsSome logged log units doubt c
 some_same false log units doubt c d is finds = is ∙ finds
@@ -72,8 +72,8 @@ some_same true log units doubt c d is finds = ⊎_elim
 -- the files of an outcome whose pages are those of a settled file
 alone_is : (main : PageFile) (c d : Files) → pages_of c ≡ pages_of d → d.main ≡ main → d.side ≡ None → Belongs c × (recovered c ≡ main)
 alone_is main c d same is none =
-    subst (λ (k : PageFile × (Kept × Option Kept)). BelongsTo k.1.1 k.0.pages × (recovered_by k.1.1 k.0 ≡ main)) (sym same)
-    (subst (λ (s : Option Kept). BelongsTo s d.main.pages × (recovered_by s d.main ≡ main)) (sym none) (tt, is))
+    subst (λ (k : PageFile × (SideFile × Option SideFile)). BelongsTo k.1.1 k.0.pages × (recovered_by k.1.1 k.0 ≡ main)) (sym same)
+    (subst (λ (s : Option SideFile). BelongsTo s d.main.pages × (recovered_by s d.main ≡ main)) (sym none) (tt, is))
 
 module _ {D : Type 0} (g : Ghosts D) (counts : (disk : D) (t : ℕ) (c : Files) → t ≤ g.moment disk → g.may_leave disk c → g.left_since disk t c) where
   -- the log of a closed file is taken away
@@ -130,12 +130,12 @@ module _ {D : Type 0} (g : Ghosts D) (counts : (disk : D) (t : ℕ) (c : Files) 
 
   pub settled_after : (main : PageFile) (old new : D) → LeavesPages g old new → IsSettled g main old → IsSettled g main new
   settled_after main old new leaves settled = record {
-    seen = ap (λ (k : PageFile × (Kept × Option Kept)). k.0) leaves.seen ∙ settled.seen;
-    no_side = ap (λ (k : PageFile × (Kept × Option Kept)). k.1.1) leaves.seen ∙ settled.no_side;
+    seen = ap (λ (k : PageFile × (SideFile × Option SideFile)). k.0) leaves.seen ∙ settled.seen;
+    no_side = ap (λ (k : PageFile × (SideFile × Option SideFile)). k.1.1) leaves.seen ∙ settled.no_side;
     crash = λ c left.
         let has = leaves.now c left in
         let was = settled.crash has.0 has.1 in
-        (ap (λ (k : PageFile × (Kept × Option Kept)). k.0) has.2 ∙ was.0, ap (λ (k : PageFile × (Kept × Option Kept)). k.1.1) has.2 ∙ was.1);
+        (ap (λ (k : PageFile × (SideFile × Option SideFile)). k.0) has.2 ∙ was.0, ap (λ (k : PageFile × (SideFile × Option SideFile)). k.1.1) has.2 ∙ was.1);
   }
 
   pub settled_with : (order : ℕ) (records : Contents) (old new : D) → IsSettled g (g.seen old).main old → HoldsRecords order records (g.seen old).main → LeavesPages g old new → HasNoLog g new → IsSettledWith g order records new
@@ -164,7 +164,7 @@ ended_finds order records old c opening bytes file log unlogged is finds left = 
     ⊎_elim
     (λ opened.
     files_find order records old c finds (
-      subst (λ (f : PageFile). StandsFor f c) file opened.0,
+      subst (λ (f : PageFile). FilesStandFor f c) file opened.0,
       subst (λ (b : Bool). FindsSome b opening.log opening.commits opening.doubt c) unlogged opened.1 ∙ log,
     ))
     (λ closed. record {
@@ -193,7 +193,7 @@ over_found head under records log bytes is over = subst (λ (l : Option (List �
 -- what a store leaves over which no log was begun
 pub unlogged_leaves : (old c : Files) (opening : Opening) → opening_file opening ≡ recovered old → opening.log ≡ old.commits.log → opening.logged ≡ false → LeavesOpening opening c → LeavesFiles old c
 unlogged_leaves old c opening file log unlogged left = (
-  subst (λ (f : PageFile). StandsFor f c) file left.0,
+  subst (λ (f : PageFile). FilesStandFor f c) file left.0,
   subst (λ (b : Bool). FindsSome b opening.log opening.commits opening.doubt c) unlogged left.1 ∙ log,
 )
 

@@ -1,5 +1,6 @@
 -- Lines that are answered as they come.
 use Rattle.std.proofs.Common.{◌≡◌, ℕ, ◌+◌, ◌≤◌, ◌<◌, Bool, true, false, if◌then◌else◌, List, [], ◌∷◌, ◌++◌, length, Option, Some, None, Result, Ok, Err, MatchResult, IsTrue, inl, inr, refl, sym, ap, subst, ◌∙◌, arith, append-nil, add-zero, ◌==◌}
+use Rattle.std.specs.FinMap as maps
 use Rattle.std.specs.List.{flat_map}
 use Rattle.std.specs.Io.KnownBytes.{Appends, Consumes, IsAtEnd}
 use Rattle.std.proofs.KnownBytes.{Consumes-trans}
@@ -13,9 +14,10 @@ use Rattle.command_text.specs.Script.{HasNoLf, bounded_entries_in, bounded_line_
 use Rattle.command_text.specs.Texts.{text_of}
 use Rattle.recfile.specs.declared.shell.Counts.{Counts}
 use Rattle.recfile.specs.declared.script.RunFault.{RunFault}
+use Rattle.recfile.specs.declared.script.RunFault.TheVariants.{Flush}
 use Rattle.recfile.specs.PartLine.{IsPartOfLine, Part, no_part}
 use Rattle.recfile.specs.Run.{Session, commands, says_command}
-use Rattle.recfile.specs.Shell.{LinesAnswered, AnsweredSoFar, Come, IsAnswered, LineAnswered, LineStops, RanLines, Start, StopsAtLine, counted_to}
+use Rattle.recfile.specs.Shell.{AsksFlush, LinesAnswered, AnsweredSoFar, Come, Fed, IsAnswered, LineAnswered, LineStops, RanLines, Start, StopsAtLine, counted_to}
 use Rattle.recfile.proofs.FedLemmas.{fed_none, fed_on, fed_end, ended_so_far, lines_at_end, ended_at}
 use Rattle.recfile.proofs.ScriptRunLemmas.{entry_of, keep-append, session-more, commands-more, written-none, written-more, accepted-more, length-more}
 
@@ -27,13 +29,17 @@ entries_by-append says (x ∷ xs) ys = ap (keep (says x)) (entries_by-append say
 counts_on : (done more n m : ℕ) → done ≡ counted_to n → m ≡ n + more → counted_to (done + more) ≡ counted_to m
 counts_on done more n m is sums = omega (arith, is, sums)
 
+-- no line has begun with no byte
+pub part_begins : IsPartOfLine no_part []
+part_begins = record { kept = λ _. refl; fits = λ _. omega arith; longer = λ never. absurd (cc) }
+
 -- nothing has come
 pub none_so_far : (strict : Bool) (held : Option (List ℕ)) (old : Seen) (part : Part) (counts : Counts) → part ≡ no_part → counts ≡ record { done = 0; lines = 0 } → AnsweredSoFar strict held held old old [] part counts
 none_so_far strict held old part counts is none = record {
   passed = [];
   begun = [];
   fed = fed_none;
-  kept = subst (λ (p : Part). IsPartOfLine p []) (sym is) (record { kept = λ _. refl; fits = λ _. omega arith; longer = λ never. absurd (cc) });
+  kept = subst (λ (p : Part). IsPartOfLine p []) (sym is) part_begins;
   answered = record { replies = []; ran = refl; written = written-none held; accepted = λ strict. All-nil _ };
   done = ap (λ (c : Counts). c.done) none;
   number = ap (λ (c : Counts). c.lines) none;
@@ -83,7 +89,7 @@ so_far_ended strict held between holds old mid new taken last part next counts m
       passed = so_far.passed ++ line ∷ [];
       begun = [];
       fed = fed_end taken so_far.passed so_far.begun last so_far.fed none;
-      kept = subst (λ (p : Part). IsPartOfLine p []) (sym cleared) (record { kept = λ _. refl; fits = λ _. omega arith; longer = λ never. absurd (cc) });
+      kept = subst (λ (p : Part). IsPartOfLine p []) (sym cleared) part_begins;
       answered = answered_with strict held between holds old mid new so_far.passed line said so_far.answered says answered;
       done = done ∙ counts_on counts.done (if says_command said then 1 else 0) (commands (bounded_entries_in so_far.passed)) (commands (bounded_entries_in (so_far.passed ++ line ∷ []))) so_far.done (commands_with so_far.passed line said says);
       number = number ∙ counts_on counts.lines 1 (length so_far.passed) (length (so_far.passed ++ line ∷ [])) so_far.number (sym (length-more so_far.passed line));
@@ -224,6 +230,19 @@ pub ran_to : (strict : Bool) (left mid leaves held holds : Option (List ℕ)) (o
     → StopsAtLine strict held holds old new (ended_lines (taken ++ bytes)) fault → RanLines strict left leaves held holds old new result
 ran_to strict left mid leaves held holds old new taken bytes result fault is before now stops = subst (RanLines strict left leaves held holds old new) (sym is)
     (inr (false, ended_lines (taken ++ bytes), record { taken = taken ++ bytes; consumed = Consumes-trans left mid leaves taken bytes before now; are = refl; end = not_ended (IsAtEnd leaves) }, stops))
+
+-- a flush was asked for
+pub ran_to_flush : (strict : Bool) (left mid leaves held holds : Option (List ℕ)) (old new : Seen) (taken bytes : List ℕ) (part : Part) (counts : Counts) (logged : Bool) (many : ℕ) → Consumes left mid taken → Consumes mid leaves bytes
+    → AnsweredSoFar strict held holds old new taken part counts → AsksFlush logged many part bytes → new.logged ≡ logged → maps.len new.file.txs ≡ many → RanLines strict left leaves held holds old new (Err Flush)
+ran_to_flush strict left mid leaves held holds old new taken bytes part counts logged many before now so_far asks logged_is many_is = inl (record {
+  taken = taken;
+  lines = so_far.passed;
+  consumed = subst (λ (bs : List ℕ). Consumes left leaves (taken ++ bs)) asks.line (Consumes-trans left mid leaves taken bytes before now);
+  are = subst (λ (bs : List ℕ). Fed taken so_far.passed bs) (sym (so_far.kept.kept (ap (λ (p : Part). p.long) asks.begins)) ∙ ap (λ (p : Part). p.bytes) asks.begins) so_far.fed;
+  answered = so_far.answered;
+  kept = logged_is ∙ asks.kept;
+  none = many_is ∙ asks.none;
+})
 
 -- a read took a byte
 pub turns_on : (turn n : ℕ) (taken bytes : List ℕ) → turn ≤ length taken → length bytes ≡ n → 0 < n → turn + 1 ≤ length (taken ++ bytes)

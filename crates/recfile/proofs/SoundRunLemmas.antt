@@ -4,9 +4,9 @@ use Rattle.record_file.specs.Runs.{Event, Seen, Run, undoubted}
 use Rattle.command_text.specs.declared.command.Command.{Command}
 use Rattle.command_text.specs.declared.reply.Reply.{Reply}
 use Rattle.command_text.specs.Grammar.{Read, line_of}
-use Rattle.command_text.specs.Script.{bounded_entries_in, bounded_line_of, entries_in, entries_of}
+use Rattle.command_text.specs.Script.{bounded_entries_in, bounded_line_of, entries_in, commands_of}
 use Rattle.recfile.specs.declared.script.RunFault.{RunFault}
-use Rattle.recfile.specs.declared.script.RunFault.TheVariants.{Script, Refused}
+use Rattle.recfile.specs.declared.script.RunFault.TheVariants.{Script, Refused, Flush}
 use Rattle.recfile.specs.declared.script.ScriptFault.TheVariants as script_faults
 use Rattle.recfile.specs.Run.{HasReply, LineHasReply, Session, Ran}
 use Rattle.recfile.specs.Shell.{LinesAnswered, LineStops, RanLines, ReadsEnd}
@@ -33,9 +33,10 @@ module _ (P : Seen → Seen → Type 0) (none : (s : Seen) → P s s) (on : (a b
 
   -- so it is over a script
   over_script : (strict : Bool) (answer : Result ℕ RunFault) (left leaves held holds : Option (List ℕ)) (old new : Seen) → Ran strict left leaves held holds old new answer → P old new
-  over_script strict (Ok done) left leaves held holds old new ran = over_session old new (entries_of ran.0.0) ran.0.1 ran.0.3
+  over_script strict (Ok done) left leaves held holds old new ran = over_session old new (commands_of ran.0.0) ran.0.1 ran.0.3
   over_script strict (Err fault) left leaves held holds old new (inl unread) = stays old new unread.1
   over_script strict (Err (Script fault)) left leaves held holds old new (inr stopped) = over_session old new stopped.2.0.served.front _ stopped.2.0.served.ran
+  over_script strict (Err Flush) left leaves held holds old new (inr stopped) = absurd stopped.2
   over_script strict (Err (Refused line)) left leaves held holds old new (inr stopped) =
       let refused = stopped.2.1 in
       on old refused.mid new (over_session old refused.mid (entries_in refused.before) refused.replies refused.ran) (over_line refused.mid new (line_of refused.line) refused.last refused.reply)
@@ -46,6 +47,7 @@ module _ (P : Seen → Seen → Type 0) (none : (s : Seen) → P s s) (on : (a b
   over_stop : (strict : Bool) (held holds : Option (List ℕ)) (old new : Seen) (said : Read (Option Command)) (done number : ℕ) (fault : RunFault) → LineStops strict held holds old said new done number fault → P old new
   over_stop strict held holds old new said done number (Script fault) stops = over_line old new said stops.0 stops.1
   over_stop strict held holds old new said done number (Refused line) stops = over_line old new said stops.0 stops.1
+  over_stop strict held holds old new said done number Flush stops = absurd stops
 
   over_end : (strict : Bool) (fault : RunFault) (left leaves held holds : Option (List ℕ)) (old new : Seen) → ReadsEnd strict left leaves held holds old new fault → P old new
   over_end strict (Script script_faults.ReadFault) left leaves held holds old new ends = over_answered strict held holds old new ends.0 ends.2
@@ -53,6 +55,7 @@ module _ (P : Seen → Seen → Type 0) (none : (s : Seen) → P s s) (on : (a b
   over_end strict (Script (script_faults.Memory done)) left leaves held holds old new ends = stays old new ends.3
   over_end strict (Script (script_faults.WriteFault done)) left leaves held holds old new ends = absurd ends
   over_end strict (Refused line) left leaves held holds old new ends = absurd ends
+  over_end strict Flush left leaves held holds old new ends = over_answered strict held holds old new ends.lines ends.answered
 
   over_lines : (strict : Bool) (answer : Result ℕ RunFault) (left leaves held holds : Option (List ℕ)) (old new : Seen) → RanLines strict left leaves held holds old new answer → P old new
   over_lines strict (Ok done) left leaves held holds old new ran = over_answered strict held holds old new ran.0 ran.2

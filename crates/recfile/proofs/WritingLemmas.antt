@@ -1,6 +1,6 @@
 -- What a session writes to its store.
 use Rattle.std.proofs.Common.{◌≡◌, ℕ, ◌++◌, Bool, true, false, List, [], ◌∷◌, length, Option, Some, None, refl, sym, ap, subst, ◌∙◌, arith, append-nil, length-append, if◌then◌else◌}
-use Rattle.page_store.specs.Journal.{Journal, noted, writing_back}
+use Rattle.page_store.specs.Journal.{Journal, noted_steps, writing_back}
 use Rattle.page_store.specs.PagesView.{memory_pages}
 use Rattle.page_store.specs.StoreCalls.{StaysStore}
 use Rattle.page_store.specs.declared.step.Step.{Step}
@@ -18,10 +18,10 @@ pub written_over : (old was new : Option Journal) (table : TableView) (unclosed 
 written_over old was new table unclosed same known = subst (λ (j : Option Journal). WritesBack j table unclosed new) same known
 
 -- a store that was given up stays as its table was made
-pub stays_by : {S : Type 0} (g : Ghosts S) (order : ℕ) (store given : S) (table : TableView) → origin_of table ≡ opened_in g order store
+pub stays_by : {S : Type 0} (g : Ghosts S) (order limit : ℕ) (store given : S) (table : TableView) → origin_of table ≡ opened_in g order limit store
     → g.pages given ≡ table.pages.stored → g.tail given ≡ table.pages.tail → g.steady given ≡ table.pages.steady → g.opening given ≡ table.pages.opening → g.writes given ≡ table.pages.writes → g.journal given ≡ table.pages.journal → g.guard given ≡ table.pages.guard
     → StaysStore g store given
-stays_by g order store given table made pages tail steady opening writes journal guard = record {
+stays_by g order limit store given table made pages tail steady opening writes journal guard = record {
   pages = pages ∙ ap (λ (o : Origin). o.stored) made;
   tail = tail ∙ ap (λ (o : Origin). o.tail) made;
   steady = steady ∙ ap (λ (o : Origin). o.steady) made;
@@ -66,10 +66,10 @@ never xs t changed same =
 pub nothing_written : (old : Journal) (t : TableView) → t.pages.changed ≡ true → WritesBack (Some old) t None (Some old) → ⊥
 nothing_written old t changed written = never old.steps t changed (ap steps_in written)
 
-pub written_twice : (old : Journal) (t : TableView) → t.pages.changed ≡ true → WritesBack (Some old) t None (noted (noted (Some old) (closing t)) (closing t)) → ⊥
+pub written_twice : (old : Journal) (t : TableView) → t.pages.changed ≡ true → WritesBack (Some old) t None (noted_steps (noted_steps (Some old) (closing t)) (closing t)) → ⊥
 written_twice old t changed written = never (old.steps ++ closing t) t changed (sym (ap steps_in written))
 
-pub kept_first : (old : Journal) (t : TableView) (fault : FileFault) → old.steps ≡ [] → t.pages.changed ≡ true → WritesBack (Some old) t (Some fault) (noted (Some old) (Sync ∷ [])) → ⊥
+pub kept_first : (old : Journal) (t : TableView) (fault : FileFault) → old.steps ≡ [] → t.pages.changed ≡ true → WritesBack (Some old) t (Some fault) (noted_steps (Some old) (Sync ∷ [])) → ⊥
 kept_first old t fault empty changed written =
     let front = written.0 in
     let begins : Sync ∷ [] ≡ front.0 = sym (ap (λ (ss : List Step). ss ++ Sync ∷ []) empty) ∙ ap steps_in front.3 ∙ ap (λ (ss : List Step). ss ++ front.0) empty in

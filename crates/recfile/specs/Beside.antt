@@ -4,7 +4,7 @@ use Rattle.rec_types.specs.Contents.{Contents}
 use Rattle.rec_types.specs.Table.{counted}
 use Rattle.page_store.specs.Opening.{Opening}
 use Rattle.page_journal.specs.Files.{Files, Belongs, recovered}
-use Rattle.page_journal.specs.Crash.{IsSettled, StandsFor}
+use Rattle.page_journal.specs.Crash.{IsSettled, FilesStandFor}
 use Rattle.page_journal.specs.Logging.{HasNoLog, Says}
 use Rattle.page_journal.specs.LoggedStores.{SaysAll, SaysDoubt, SaysFirst}
 use Rattle.page_journal.specs.declared.disk_state.DiskState.{Ghosts}
@@ -38,11 +38,11 @@ FindsEach true log commits doubt c = SaysAll commits doubt c
 
 -- files that stand for what these stood for, with the log that stood beside them
 abbrev pub LeavesFiles : Files → Files → Type 0
-LeavesFiles old c = StandsFor (recovered old) c × (c.commits.log ≡ old.commits.log)
+LeavesFiles old c = FilesStandFor (recovered old) c × (c.commits.log ≡ old.commits.log)
 
 -- the file that a store was opened over, with some of the commits that are kept beside it
 abbrev pub LeavesOpening : Opening → Files → Type 0
-LeavesOpening opening c = StandsFor (opening_file opening) c × FindsSome opening.logged opening.log opening.commits opening.doubt c
+LeavesOpening opening c = FilesStandFor (opening_file opening) c × FindsSome opening.logged opening.log opening.commits opening.doubt c
 
 -- or a file that is closed and has these records, in a tree of this order, and the whole log
 abbrev pub LeavesClosed : Opening → ℕ → Contents → Files → Type 0

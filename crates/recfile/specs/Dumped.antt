@@ -11,7 +11,7 @@ use Rattle.btree_delete.specs.declared.opening.open_fault.OpenFault.{OpenFault}
 use Rattle.command_text.specs.Dump.{dump_text, CanBePut}
 use Rattle.record_texts.specs.Forms.{records_text}
 use Rattle.record_texts.specs.declared.form.Form.{Form}
-use Rattle.recfile.specs.FileFaults.{fault_of_listing, fault_of_opening, is_device}
+use Rattle.recfile.specs.FileFaults.{fault_of_listing, fault_of_opening, is_file_device}
 use Rattle.recfile.specs.declared.dump.DumpFault.{DumpFault}
 use Rattle.recfile.specs.declared.dump.DumpFault.TheVariants.{File, Write}
 use Rattle.recfile.specs.declared.file_fault.FileFault.{FileFault}
@@ -34,7 +34,7 @@ IsFirstOrOutside stored tail limit fault =
 -- whether the device failed
 abbrev pub is_device_dump : {A : Type 0} → Result A DumpFault → Bool
 is_device_dump (Ok x) = false
-is_device_dump (Err (File fault)) = is_device fault
+is_device_dump (Err (File fault)) = is_file_device fault
 is_device_dump (Err Write) = false
 
 -- it isn't the writer that failed

@@ -1,10 +1,12 @@
 -- What a session leaves whose commits are kept before they are answered, and what an opening finds after a stop of it.
-use Rattle.std.specs.Prelude.{◌≡◌, ◌⊎◌, ℕ, true, List, [], ◌∷◌, ◌++◌, Option, None, OnOk}
+use Rattle.std.specs.Prelude.{◌≡◌, ◌⊎◌, ℕ, true, ◌≤◌, Bool, ◌&&◌, not, is_some, List, [], ◌∷◌, ◌++◌, Option, None, Result, OnOk}
+use Rattle.std.specs.FinMap as maps
+use Rattle.std.specs.Result.{is_ok}
 use Rattle.rec_types.specs.Contents.{Contents}
 use Rattle.rec_types.specs.LimitBounds.{Bounds}
 use Rattle.page_store.specs.Opening.{Opening}
-use Rattle.page_journal.specs.Files.{Files, recovered}
-use Rattle.page_journal.specs.Crash.{StandsAs, StandsFor}
+use Rattle.page_journal.specs.Files.{Belongs, Files, recovered}
+use Rattle.page_journal.specs.Crash.{StandsAs, FilesStandFor}
 use Rattle.page_journal.specs.Logging.{SaysNoneOr}
 use Rattle.record_file.specs.Abstract.{new_file}
 use Rattle.page_journal.specs.declared.disk_state.DiskState.{Ghosts}
@@ -12,14 +14,17 @@ use Rattle.command_text.specs.Units.{Write}
 use Rattle.record_file.specs.Durable.{overlay}
 use Rattle.record_file.specs.Runs.{Seen}
 use Rattle.recfile.specs.Beside.{IsSettledWith, LeavesOpening}
+use Rattle.recfile.specs.Dumped.{CanBeOpened}
 use Rattle.recfile.specs.Kept.{opening_file}
 use Rattle.recfile.specs.LogOver.{Finds, head_line}
 use Rattle.recfile.specs.Overlaid.{writes_in_turn}
 use Rattle.recfile.specs.SessionCommits.{MakesCommits, in_doubt}
 use Rattle.recfile.specs.Streams.{CallsMade}
-use Rattle.recfile.specs.WholeSession.{RunsFile, opened_file}
+use Rattle.recfile.specs.WholeSession.{RunsFile, is_flush, opened_file}
+use Rattle.recfile.specs.declared.endings.EndFault.{EndFault}
 use Rattle.recfile.specs.declared.file_fault.FileFault.{FileFault}
 use Rattle.recfile.specs.declared.manner.Manner.{Manner}
+use Rattle.recfile.specs.declared.script.RunFault.{RunFault}
 
 -- a page file with these records, beside which a log was begun with these commits; no transaction was begun
 abbrev pub logged_file : Contents → Bounds → ℕ → List (List (List ℕ)) → Seen
@@ -31,18 +36,30 @@ pub record IsBegunBeside (opening : Opening) : Type 0 where
   pub commits : opening.commits ≡ (head_line (opening_file opening) ∷ []) ∷ []
   pub doubt : opening.doubt ≡ []
 
--- a session over a file with these limits, whatever its records, beside which a log was begun
-abbrev pub RunsLogged : Manner → Bounds → Option (List ℕ) → Option (List ℕ) → Option (List ℕ) → Option (List ℕ) → CallsMade → CallsMade → Option FileFault → ℕ → Type 0
-RunsLogged manner limits left leaves held holds before after unclosed status =
-    (old : Seen) × (old.file ≡ new_file old.records limits) × RunsFile manner left leaves held holds before after old unclosed status × (old.logged ≡ true)
+-- files that belong together, and stand for a closed file of no more than so many records
+abbrev pub StandForClosed : ℕ → Files → Type 0
+StandForClosed limit files = Belongs files × CanBeOpened (recovered files).pages (recovered files).tail limit
+
+-- whether the lines ended at a flush, and the file was closed
+abbrev pub flushed_by : Result ℕ RunFault → Result ℕ EndFault → Option FileFault → Bool
+flushed_by answer ended unclosed = is_ok ended && (not (is_some unclosed) && is_flush answer)
+
+-- A session over a file with these limits, whatever its records, beside which a log was begun.
+pub record RunsLogged (manner : Manner) (limits : Bounds) (left leaves held holds : Option (List ℕ)) (before after : CallsMade)
+    (unclosed : Option FileFault) (status : ℕ) (flushed : Bool) : Type 0 where
+  pub old : Seen
+  pub file : old.file ≡ new_file old.records limits
+  pub logged : old.logged ≡ true
+  pub run : RunsFile manner left leaves held holds before after old unclosed status
+  pub flush : flushed ≡ flushed_by run.answer run.ended unclosed
 
 -- where the file isn't opened: it stays what it was, and the log beside it, or that was taken away
 abbrev pub LeavesUnread : Opening → Files → Type 0
-LeavesUnread opening c = LeavesOpening opening c ⊎ (StandsFor (opening_file opening) c × (c.commits.log ≡ None))
+LeavesUnread opening c = LeavesOpening opening c ⊎ (FilesStandFor (opening_file opening) c × (c.commits.log ≡ None))
 
 -- with no log, or with one in which no commit is
 abbrev pub LeavesUnbegun : Files → Files → Type 0
-LeavesUnbegun old c = StandsFor (recovered old) c × SaysNoneOr ((head_line (recovered old) ∷ []) ∷ []) c
+LeavesUnbegun old c = FilesStandFor (recovered old) c × SaysNoneOr ((head_line (recovered old) ∷ []) ∷ []) c
 
 abbrev pub StandsUnbegun : Files → Files → Type 0
 StandsUnbegun old c = StandsAs old c × SaysNoneOr ((head_line (recovered old) ∷ []) ∷ []) c
@@ -62,10 +79,12 @@ FindsEachCommit order contents kept doubted c =
 
 -- A session over a file with these records, in a tree of this order, whose commits are kept before they are answered; then the file was closed and the log taken away, or a fault stopped that. A crash at any moment since the log was begun leaves what some of the commits make, from the first on, the one in doubt last; at the end it leaves what all make, with that one or without, whatever failed, and after the closing the file has what all make by itself.
 pub record EndsDurably {D : Type 0} (g : Ghosts D) (manner : Manner) (left leaves held holds : Option (List ℕ)) (before after : CallsMade)
-    (order : ℕ) (contents : Contents) (limits : Bounds) (failures : ℕ) (commits : List (List (List ℕ))) (unclosed : Option FileFault) (status : ℕ) (disk : D) : Type 0 where
+    (order : ℕ) (contents : Contents) (limits : Bounds) (failures : ℕ) (commits : List (List (List ℕ))) (unclosed : Option FileFault) (status : ℕ) (flushed : Bool) (disk : D) : Type 0 where
   pub run : RunsFile manner left leaves held holds before after (logged_file contents limits failures commits) unclosed status
+  pub flush : flushed ≡ flushed_by run.answer run.ended unclosed
   pub made : MakesCommits (logged_file contents limits failures commits) run.mid
   pub records : OnOk run.ended (run.new.records ≡ overlay contents (writes_in_turn made.kept))
+  pub within : OnOk run.ended (maps.len run.new.records ≤ limits.records)
   pub any_moment : (c : Files) → g.left_since disk 0 c → FindsCommits order contents made.kept (in_doubt made.doubted) c
   pub lasts : (c : Files) → g.may_leave disk c → FindsEachCommit order contents made.kept (in_doubt made.doubted) c
   pub closed : OnOk run.ended (unclosed ≡ None → IsSettledWith g order (overlay contents (writes_in_turn made.kept)) disk)

@@ -87,21 +87,21 @@ answer_of_store (Ok done) = Ok done
 answer_of_store (Err fault) = Err (fault_of_store fault)
 
 -- whether the device failed
-abbrev pub is_device : FileFault → Bool
-is_device Device = true
-is_device fault = false
+abbrev pub is_file_device : FileFault → Bool
+is_file_device Device = true
+is_file_device fault = false
 
-abbrev pub by_device : Option FileFault → Bool
-by_device None = false
-by_device (Some fault) = is_device fault
+abbrev pub file_by_device : Option FileFault → Bool
+file_by_device None = false
+file_by_device (Some fault) = is_file_device fault
 
 abbrev pub is_device_answer : {A : Type 0} → Result A FileFault → Bool
 is_device_answer (Ok x) = false
-is_device_answer (Err fault) = is_device fault
+is_device_answer (Err fault) = is_file_device fault
 
 abbrev pub is_device_overlay : {A : Type 0} → Result A OverlayFault → Bool
 is_device_overlay (Ok x) = false
-is_device_overlay (Err fault) = is_device (fault_of_overlay fault)
+is_device_overlay (Err fault) = is_file_device (fault_of_overlay fault)
 
 -- Why no page file was made: the first check that fails has that name. Device and Memory come from outside, Memory
 -- once the file is being written.

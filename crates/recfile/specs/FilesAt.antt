@@ -16,10 +16,9 @@ use Rattle.btree_delete.specs.Created.{IsEmpty, IsOrder}
 use Rattle.btree_delete.specs.TableView.{IsClosed}
 use Rattle.record_texts.specs.declared.form.Form.{Form}
 use Rattle.recfile.specs.Dumped.{CanBeOpened, DumpStops, Dumps, IsDumpFault, IsFirstOrOutside, IsSilentInside, ReadingStops, text_in}
-use Rattle.recfile.specs.DurableSession.{EndsDurably, RunsLogged, StandsUnbegun}
-use Rattle.recfile.specs.FileFaults.{IsMakingFault, fault_of_copying, is_device}
-use Rattle.recfile.specs.Kept.{ClosesSafely, CountsClosing, IsOutsideDisk, IsUnopened, LeavesAs, LeavesOld, RunsOn}
-use Rattle.recfile.specs.LogOver.{HoldsWithin, head_line}
+use Rattle.recfile.specs.Flushing.{InARow}
+use Rattle.recfile.specs.FileFaults.{IsMakingFault, fault_of_copying, is_file_device}
+use Rattle.recfile.specs.Kept.{ClosesSafely, IsOutsideDisk, IsUnopened, LeavesAs, LeavesOld, RunsOn}
 use Rattle.recfile.specs.Settling.{SettlesAt}
 use Rattle.recfile.specs.StoreSession.{MakesIn}
 use Rattle.recfile.specs.Streams.{CallsMade}
@@ -49,7 +48,7 @@ pub record KeptSession {D : Type 0} (g : DiskGhosts D) (manner : Manner) (limits
     (left leaves held holds : Option (List ℕ)) (before after : CallsMade) (opened : D) (unopened unclosed : Option FileFault) (disk : D) (status : ℕ) : Type 0 where
   pub unread : IfSome unopened (λ _. (status ≡ 1) × (unclosed ≡ None) × (leaves ≡ left) × (holds ≡ held) × (after ≡ before))
   pub ran : unopened ≡ None → RunsOn g manner limits left leaves held holds before after unclosed status disk
-  pub device : IfSome unopened (λ fault. g.failures disk ≡ counted (g.failures opened) (is_device fault))
+  pub device : IfSome unopened (λ fault. g.failures disk ≡ counted (g.failures opened) (is_file_device fault))
   pub own : IsTrue (g.steady opened) → unopened ≡ None → Belongs (g.began opened)
   pub closed : IsTrue (g.steady opened) → unopened ≡ None → CanBeOpened (recovered (g.began opened)).pages (recovered (g.began opened)).tail limits.records
   pub first : IsTrue (g.steady opened) → IfSome unopened (IsUnopened (g.began opened) limits.records)
@@ -60,26 +59,10 @@ pub record KeptSession {D : Type 0} (g : DiskGhosts D) (manner : Manner) (limits
       → MatchOption unopened (EndsFile manner left leaves held holds before after (opened_file contents limits (g.failures opened))
       (ClosesSafely g (recovered (g.began opened)) disk unclosed tree.order) unclosed status) (IsOutsideDisk (g.began opened))
 
--- The same where each commit is kept before it is answered, beside a disk without a log of commits.
-pub record DurableSession {D : Type 0} (g : DiskGhosts D) (manner : Manner) (limits : Bounds)
-    (left leaves held holds : Option (List ℕ)) (before after : CallsMade) (opened : D) (unopened unclosed : Option FileFault) (disk : D) (status : ℕ) : Type 0 where
-  pub unread : IfSome unopened (λ _. (status ≡ 1) × (unclosed ≡ None) × (leaves ≡ left) × (holds ≡ held) × (after ≡ before))
-  pub ran : unopened ≡ None → RunsLogged manner limits left leaves held holds before after unclosed status
-  -- once more where the log that was begun isn't taken away either
-  pub device : IfSome unopened (λ fault. CountsClosing (g.failures opened) true (is_device fault) (g.failures disk))
-  pub own : IsTrue (g.steady opened) → unopened ≡ None → Belongs (g.began opened)
-  pub closed : IsTrue (g.steady opened) → unopened ≡ None → CanBeOpened (recovered (g.began opened)).pages (recovered (g.began opened)).tail limits.records
-  pub first : IsTrue (g.steady opened) → IfSome unopened (IsUnopened (g.began opened) limits.records)
-  pub untouched : IsTrue (g.steady opened) → IfSome unopened (λ _. (c : Files) → g.left_since disk 0 c → StandsUnbegun (g.began opened) c)
-  pub stopped : IsTrue (g.steady opened) → status ≡ 4 → LeavesOld g (recovered (g.began opened)) disk
-  pub session : IsTrue (g.steady opened) → (order : ℕ) → (contents : Contents) → HoldsWithin limits.records order contents (recovered (g.began opened))
-      → MatchOption unopened (EndsDurably g manner left leaves held holds before after order contents limits (g.failures opened)
-      ((head_line (recovered (g.began opened)) ∷ []) ∷ []) unclosed status disk) (IsOutsideDisk (g.began opened))
-
--- such a session, or one whose file is written when it is closed
+-- sessions whose commits are kept before they are answered, each but the last ended by a flush; or one whose file is written when it is closed
 abbrev pub SessionOf : {D : Type 0} → Bool → DiskGhosts D → Manner → Bounds → Option (List ℕ) → Option (List ℕ) → Option (List ℕ) → Option (List ℕ) → CallsMade → CallsMade → D → Option FileFault → Option FileFault → D → ℕ → Type 0
 SessionOf false g manner limits left leaves held holds before after opened unopened unclosed disk status = KeptSession g manner limits left leaves held holds before after opened unopened unclosed disk status
-SessionOf true g manner limits left leaves held holds before after opened unopened unclosed disk status = DurableSession g manner limits left leaves held holds before after opened unopened unclosed disk status
+SessionOf true g manner limits left leaves held holds before after opened unopened unclosed disk status = InARow g manner limits (record { disk = opened; left = left; held = held; calls = before }) (record { disk = disk; left = leaves; held = holds; calls = after }) unopened unclosed status
 
 -- over the disk that was opened at a path, and put right
 pub record RunsAt {D : Type 0} (g : DiskGhosts D) (At : Files → Type 0) (durable : Bool) (manner : Manner) (limits : Bounds)

@@ -11,7 +11,7 @@ use Rattle.btree_insert.specs.declared.tree.Tree.{Tree}
 use Rattle.btree_delete.specs.TableView.{IsClosed}
 use Rattle.btree_load.specs.Trees.{puts}
 use Rattle.recfile.specs.Dumped.{IsOutsideFile}
-use Rattle.recfile.specs.FileFaults.{by_device}
+use Rattle.recfile.specs.FileFaults.{file_by_device}
 use Rattle.recfile.specs.Kept.{ClosesSafely, CountsClosing, LeavesAs}
 use Rattle.recfile.specs.Settling.{SettlesAt}
 use Rattle.recfile.specs.Statuses.{exit_status_of}
@@ -36,7 +36,7 @@ pub record FillsDisk {D : Type 0} (g : Ghosts D) (records : List Element) (opene
   pub own : IsTrue (g.steady opened) → Belongs (g.began opened)
   pub filled : IsTrue (g.steady opened) → FillsBlank g (recovered (g.began opened)) records disk unclosed
   pub fault : IfSome unclosed IsOutsideFile
-  pub failures : CountsClosing (g.failures opened) (is_some unclosed) (by_device unclosed) (g.failures disk)
+  pub failures : CountsClosing (g.failures opened) (is_some unclosed) (file_by_device unclosed) (g.failures disk)
   pub status_is : status ≡ exit_status_of false (is_some unclosed) false
 
 -- and over the disk that was opened at a path

@@ -7,13 +7,13 @@ use Rattle.btree_node.specs.Layout.{second_version}
 use Rattle.btree_insert.specs.declared.tree.Tree.{Tree}
 use Rattle.btree_delete.specs.TableView.{IsClosed}
 use Rattle.page_journal.specs.Files.{PageFile, Files, Belongs, recovered}
-use Rattle.page_journal.specs.Crash.{IsSettled, StandsAs, StandsFor}
+use Rattle.page_journal.specs.Crash.{IsSettled, StandsAs, FilesStandFor}
 use Rattle.page_journal.specs.Recovery.{IsForeign}
 use Rattle.page_journal.specs.declared.disk_state.DiskState.{Ghosts}
 use Rattle.rec_types.specs.LimitBounds.{Bounds}
 use Rattle.rec_types.specs.Table.{counted}
 use Rattle.recfile.specs.Dumped.{IsFirstOrOutside, IsOutsideFile}
-use Rattle.recfile.specs.FileFaults.{by_device}
+use Rattle.recfile.specs.FileFaults.{file_by_device}
 use Rattle.recfile.specs.Streams.{CallsMade}
 use Rattle.recfile.specs.WholeSession.{RunsAny}
 use Rattle.recfile.specs.declared.manner.Manner.{Manner}
@@ -30,11 +30,11 @@ HasRecords order records file = (tree : Tree) × (tree.order ≡ order) × IsClo
 
 -- a crash at any moment since the disk was opened leaves files that stand for this file
 abbrev pub LeavesOld : {D : Type 0} → Ghosts D → PageFile → D → Type 0
-LeavesOld g old disk = (c : Files) → g.left_since disk 0 c → StandsFor old c
+LeavesOld g old disk = (c : Files) → g.left_since disk 0 c → FilesStandFor old c
 
 -- or for one that is closed and has these records, in a tree of this order
 abbrev pub LeavesEither : {D : Type 0} → Ghosts D → PageFile → ℕ → Contents → D → Type 0
-LeavesEither g old order records disk = (c : Files) → g.left_since disk 0 c → StandsFor old c ⊎ (Belongs c × HasRecords order records (recovered c))
+LeavesEither g old order records disk = (c : Files) → g.left_since disk 0 c → FilesStandFor old c ⊎ (Belongs c × HasRecords order records (recovered c))
 
 -- a crash at any moment since the disk was opened leaves files that stand for what these stood for
 abbrev pub LeavesAs : {D : Type 0} → Ghosts D → Files → D → Type 0
@@ -74,7 +74,7 @@ pub record CountsClosing (before : ℕ) (failed device : Bool) (after : ℕ) : T
 pub record RunsOn {D : Type 0} (g : Ghosts D) (manner : Manner) (limits : Bounds) (left leaves held holds : Option (List ℕ))
     (before after : CallsMade) (unclosed : Option FileFault) (status : ℕ) (disk : D) : Type 0 where
   pub run : RunsAny manner limits left leaves held holds before after unclosed status
-  pub failures : CountsClosing run.2.new.failures (is_some unclosed) (by_device unclosed) (g.failures disk)
+  pub failures : CountsClosing run.2.new.failures (is_some unclosed) (file_by_device unclosed) (g.failures disk)
 
 -- a fault from outside, or a side file of another file
 abbrev pub IsOutsideDisk : Files → FileFault → Type 0

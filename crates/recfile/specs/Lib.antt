@@ -22,6 +22,7 @@ pub mod Streams
 pub mod TreeLine
 pub mod Settling
 pub mod StoreSession
+pub mod Flushing
 pub mod FilesAt
 pub mod Tasks
 pub mod Words

@@ -19,13 +19,13 @@ use Rattle.record_file.specs.declared.keeper.KeeperFault.{KeeperFault}
 use Rattle.record_file.specs.declared.keeper.KeeperFault.TheVariants as keeper_faults
 use Rattle.command_text.specs.Grammar.{Read, line_of}
 use Rattle.command_text.specs.Refusals.{is_refusal}
-use Rattle.command_text.specs.Script.{lines_of, entries_in, entries_of}
+use Rattle.command_text.specs.Script.{lines_of, entries_in, commands_of}
 use Rattle.command_text.specs.Texts.{text_of}
 use Rattle.command_text.specs.Units.{unit_lines, unit_commands}
 use Rattle.recfile.specs.declared.script.ScriptFault.{ScriptFault}
 use Rattle.recfile.specs.declared.script.ScriptFault.TheVariants as faults
 use Rattle.recfile.specs.declared.script.RunFault.{RunFault}
-use Rattle.recfile.specs.declared.script.RunFault.TheVariants.{Script, Refused}
+use Rattle.recfile.specs.declared.script.RunFault.TheVariants.{Script, Refused, Flush}
 use Rattle.recfile.specs.Whole.{IsWhole, IsTooLong, TakesAtMost, longest_script}
 
 -- The calls that the reply to a command tells of. A line that can't be read makes no call, nor does a commit that isn't kept
@@ -170,15 +170,15 @@ commands entries = length (filter is_command entries)
 -- the front of a script was run: its entries up to a rest have these replies, with this many commands
 pub record Served (script rest : List ℕ) (old : Seen) (replies : List Reply) (new : Seen) (done : ℕ) : Type 0 where
   pub front : List (Read Command)
-  pub split : entries_of script ≡ front ++ entries_of rest
+  pub split : commands_of script ≡ front ++ commands_of rest
   pub ran : Session old front replies new
   pub count : done ≡ commands front
 
 -- what was written is the text of the whole run
 abbrev pub Finished : Option (List ℕ) → Option (List ℕ) → Option (List ℕ) → Option (List ℕ) → Seen → Seen → ℕ → Type 0
 Finished left leaves held holds old new done =
-    (script : List ℕ) × (replies : List Reply) × IsWhole left leaves script × Session old (entries_of script) replies new
-    × Appends held holds (flat_map text_of replies) × (done ≡ commands (entries_of script))
+    (script : List ℕ) × (replies : List Reply) × IsWhole left leaves script × Session old (commands_of script) replies new
+    × Appends held holds (flat_map text_of replies) × (done ≡ commands (commands_of script))
 
 -- how many commands were run by a fault
 abbrev pub done_of : ScriptFault → ℕ
@@ -257,11 +257,13 @@ abbrev pub LinesStop : Bool → Option (List ℕ) → Option (List ℕ) → Seen
 LinesStop strict held holds old new script (Script fault) =
     (stop : ScriptStopsAt held holds old new script fault) × AcceptedIf strict stop.replies
 LinesStop strict held holds old new script (Refused line) = IsTrue strict × RefusedAt held holds old new script line
+LinesStop strict held holds old new script Flush = ⊥
 
 -- the fault of a script that wasn't read
 abbrev pub RunReadStops : Option (List ℕ) → Option (List ℕ) → RunFault → Type 0
 RunReadStops left leaves (Script fault) = ReadStops left leaves fault
 RunReadStops left leaves (Refused line) = ⊥
+RunReadStops left leaves Flush = ⊥
 
 -- What became of a script, where refusals end it, or don't: it was run to its end; it wasn't read, and nothing was run;
 -- or its lines were run up to one.
@@ -271,11 +273,12 @@ Ran strict left leaves held holds old new (Ok done) =
 Ran strict left leaves held holds old new (Err fault) =
     (RunReadStops left leaves fault × (new ≡ old) × (holds ≡ held)) ⊎ ((script : List ℕ) × IsWhole left leaves script × LinesStop strict held holds old new script fault)
 
--- no refusal ended the script
+-- no refusal ended the script, and no flush
 abbrev pub NotRefused : Result ℕ RunFault → Type 0
 NotRefused (Ok done) = Unit {0}
 NotRefused (Err (Script fault)) = Unit {0}
 NotRefused (Err (Refused line)) = ⊥
+NotRefused (Err Flush) = ⊥
 
 -- the answer of a script that no refusal ends, among those of a script that one may end
 abbrev pub run_of : Result ℕ ScriptFault → Result ℕ RunFault

@@ -1,5 +1,6 @@
 -- The run of lines each of which is answered before more is read.
-use Rattle.std.specs.Prelude.{◌≡◌, ℕ, ◌+◌, ◌≤◌, Bool, true, false, min, List, [], ◌∷◌, ◌++◌, length, Option, Result, Ok, Err, None, ◌⊎◌, IsTrue, if◌then◌else◌}
+use Rattle.std.specs.Prelude.{◌≡◌, ℕ, ◌+◌, ◌≤◌, Bool, true, false, min, List, [], ◌∷◌, ◌++◌, length, Option, Result, Ok, Err, None, ◌⊎◌, IsTrue, if◌then◌else◌, codes}
+use Rattle.std.specs.FinMap as maps
 use Rattle.std.specs.List.{flat_map, slice_split}
 use Rattle.std.specs.Io.KnownBytes.{Appends, Consumes, IsAtEnd}
 use Rattle.record_file.specs.Runs.{Seen}
@@ -11,9 +12,9 @@ use Rattle.command_text.specs.Script.{HasNoLf, bounded_entries_in, bounded_line_
 use Rattle.command_text.specs.Texts.{text_of}
 use Rattle.recfile.specs.declared.script.ScriptFault.TheVariants as faults
 use Rattle.recfile.specs.declared.script.RunFault.{RunFault}
-use Rattle.recfile.specs.declared.script.RunFault.TheVariants.{Script, Refused}
+use Rattle.recfile.specs.declared.script.RunFault.TheVariants.{Script, Refused, Flush}
 use Rattle.recfile.specs.declared.shell.Counts.{Counts}
-use Rattle.recfile.specs.PartLine.{IsPartOfLine, Part}
+use Rattle.recfile.specs.PartLine.{IsPartOfLine, Part, no_part}
 use Rattle.recfile.specs.Run.{AcceptedIf, IsUnsent, LineHasReply, Session, commands}
 
 -- the greatest number of 32 bits
@@ -86,6 +87,7 @@ LineStops strict held holds old said new done number (Script fault) =
 LineStops strict held holds old said new done number (Refused line) =
     (reply : Reply) × LineHasReply old said reply new × Appends held holds (text_of reply)
     × IsTrue strict × (is_refusal reply ≡ true) × (line ≡ number)
+LineStops strict held holds old said new done number Flush = ⊥
 
 -- The lines before a line are answered, that line ended the run, and no line after it was run. Lines are counted from 1,
 -- with those that say nothing.
@@ -99,8 +101,29 @@ pub record StopsAtLine (strict : Bool) (held holds : Option (List ℕ)) (old new
   pub answered : LinesAnswered strict held between old before mid
   pub stops : LineStops strict between holds mid (bounded_line_of line) new (counted_to (commands (bounded_entries_in (before ++ line ∷ [])))) (counted_to (length before + 1)) fault
 
--- Why no more was read, by which each line that had its LF was answered: a read failed; there were too many; or there
--- was no memory to begin with, and nothing was read.
+-- the line of a session by which it asks for a flush
+abbrev pub flush_line : List ℕ
+flush_line = codes "flush" ++ 10 ∷ []
+
+-- Where commits are kept and no transaction is open, the bytes that come next are that line.
+pub record AsksFlush (logged : Bool) (many : ℕ) (part : Part) (bytes : List ℕ) : Type 0 where
+  pub kept : logged ≡ true
+  pub none : many ≡ 0
+  pub begins : part ≡ no_part
+  pub line : bytes ≡ flush_line
+
+-- A flush was asked for, where commits are kept and no transaction is open: each line before is answered, and nothing behind was taken.
+pub record StopsAtFlush (strict : Bool) (left leaves held holds : Option (List ℕ)) (old new : Seen) : Type 0 where
+  pub taken : List ℕ
+  pub lines : List (List ℕ)
+  pub consumed : Consumes left leaves (taken ++ flush_line)
+  pub are : Fed taken lines []
+  pub answered : LinesAnswered strict held holds old lines new
+  pub kept : new.logged ≡ true
+  pub none : maps.len new.file.txs ≡ 0
+
+-- Why no more was read, by which each line that had its LF was answered: a read failed; there were too many; there was no
+-- memory to begin with, and nothing was read; or a line asked for a flush.
 abbrev pub ReadsEnd : Bool → Option (List ℕ) → Option (List ℕ) → Option (List ℕ) → Option (List ℕ) → Seen → Seen → RunFault → Type 0
 ReadsEnd strict left leaves held holds old new (Script faults.ReadFault) =
     (lines : List (List ℕ)) × Come left leaves false lines × LinesAnswered strict held holds old lines new
@@ -110,6 +133,7 @@ ReadsEnd strict left leaves held holds old new (Script (faults.Memory done)) =
     (done ≡ 0) × (leaves ≡ left) × (holds ≡ held) × (new ≡ old)
 ReadsEnd strict left leaves held holds old new (Script (faults.WriteFault done)) = ⊥
 ReadsEnd strict left leaves held holds old new (Refused line) = ⊥
+ReadsEnd strict left leaves held holds old new Flush = StopsAtFlush strict left leaves held holds old new
 
 -- What became of the lines that a reader has: all were run, so many commands; or reading ended before; or a line ended
 -- the run.

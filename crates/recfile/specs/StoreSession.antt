@@ -3,14 +3,14 @@ use Rattle.std.specs.Prelude.{◌≡◌, ◌⊎◌, ℕ, Bool, true, false, List
 use Rattle.rec_types.specs.Contents.{Contents}
 use Rattle.rec_types.specs.LimitBounds.{Bounds}
 use Rattle.rec_types.specs.Table.{counted}
-use Rattle.page_store.specs.Journal.{Journal, noted, NotesFront}
+use Rattle.page_store.specs.Journal.{Journal, noted_steps, NotesFront}
 use Rattle.page_store.specs.StoreCalls.{StaysStore}
 use Rattle.page_store.specs.declared.store_state.StoreState.{Ghosts}
 use Rattle.btree_node.specs.Layout.{second_version}
 use Rattle.btree_delete.specs.Closing.{closing}
 use Rattle.btree_delete.specs.Created.{IsCreated}
 use Rattle.btree_delete.specs.TableView.{TableView, IsClosed, table_contents}
-use Rattle.recfile.specs.FileFaults.{by_device}
+use Rattle.recfile.specs.FileFaults.{file_by_device}
 use Rattle.recfile.specs.Streams.{CallsMade}
 use Rattle.recfile.specs.WholeSession.{RunsAny}
 use Rattle.recfile.specs.declared.file_fault.FileFault.{FileFault}
@@ -20,7 +20,7 @@ use Rattle.recfile.specs.declared.manner.Manner.{Manner}
 -- A table was closed, and its store asked for nothing else: its writing back is noted, whole where no fault stopped that,
 -- and else a front of it, which is empty where memory was short.
 abbrev pub WritesBack : Option Journal → TableView → Option FileFault → Option Journal → Type 0
-WritesBack old t None new = new ≡ noted old (closing t)
+WritesBack old t None new = new ≡ noted_steps old (closing t)
 WritesBack old t (Some fault) new = NotesFront (closing t) old new × (fault ≡ Memory → new ≡ old)
 
 -- a new table of this order was closed in an empty store
@@ -51,7 +51,7 @@ pub record ClosesIn {S : Type 0} (g : Ghosts S) (old new : S) (unclosed : Option
 pub record RunsIn {S : Type 0} (g : Ghosts S) (old new : S) (manner : Manner) (limits : Bounds) (left leaves held holds : Option (List ℕ))
     (before after : CallsMade) (unclosed : Option FileFault) (status : ℕ) : Type 0 where
   pub run : RunsAny manner limits left leaves held holds before after unclosed status
-  pub failures : g.failures new ≡ counted run.2.new.failures (by_device unclosed)
+  pub failures : g.failures new ≡ counted run.2.new.failures (file_by_device unclosed)
   pub written : MatchResult run.2.ended
       (λ _. (t : TableView) × (table_contents t ≡ run.2.new.records) × WritesBack (g.journal old) t unclosed (g.journal new))
       (λ _. StaysStore g old new)

@@ -3,7 +3,7 @@ use Rattle.std.specs.Prelude.{◌≡◌, ◌<◌, ℕ, Bool, true, false, ◌||�
 use Rattle.recfile.specs.declared.script.ScriptFault.{ScriptFault}
 use Rattle.recfile.specs.declared.script.ScriptFault.TheVariants as faults
 use Rattle.recfile.specs.declared.script.RunFault.{RunFault}
-use Rattle.recfile.specs.declared.script.RunFault.TheVariants.{Script, Refused}
+use Rattle.recfile.specs.declared.script.RunFault.TheVariants.{Script, Refused, Flush}
 
 -- how many reads were made, whether one of them failed, and whether a write failed or took no byte
 pub record CallsMade : Type 0 where
@@ -45,11 +45,13 @@ abbrev pub run_read_fault : {A : Type 0} → Result A RunFault → Bool
 run_read_fault (Ok x) = false
 run_read_fault (Err (Script fault)) = is_read_fault fault
 run_read_fault (Err (Refused line)) = false
+run_read_fault (Err Flush) = false
 
 abbrev pub run_write_fault : {A : Type 0} → Result A RunFault → Bool
 run_write_fault (Ok x) = false
 run_write_fault (Err (Script fault)) = is_write fault
 run_write_fault (Err (Refused line)) = false
+run_write_fault (Err Flush) = false
 
 -- ReadFault and WriteFault are answered exactly where a read or a write failed
 pub record TellsFailed (old : CallsMade) (read_fault write_fault : Bool) (new : CallsMade) : Type 0 where

@@ -1,5 +1,5 @@
 -- A script over a file, and the end of what it leaves open.
-use Rattle.std.specs.Prelude.{◌≡◌, ℕ, Bool, true, false, List, [], Option, None, is_some, IfSome, Result, MatchResult, OnOk, OnErr, IsTrue}
+use Rattle.std.specs.Prelude.{◌≡◌, ℕ, Bool, true, false, List, [], Option, None, is_some, IfSome, Result, Ok, Err, MatchResult, OnOk, OnErr, IsTrue}
 use Rattle.std.specs.Result.{is_err}
 use Rattle.rec_types.specs.Contents.{Contents}
 use Rattle.rec_types.specs.History.{replay}
@@ -21,6 +21,7 @@ use Rattle.recfile.specs.declared.manner.Feed.{Feed}
 use Rattle.recfile.specs.declared.manner.Feed.TheVariants.{Lines, Script}
 use Rattle.recfile.specs.declared.manner.Manner.{Manner}
 use Rattle.recfile.specs.declared.script.RunFault.{RunFault}
+use Rattle.recfile.specs.declared.script.RunFault.TheVariants.{Script as Faulted, Refused, Flush}
 
 -- what became of the lines that a reader has, by how they come
 abbrev pub RanBy : Feed → Bool → Option (List ℕ) → Option (List ℕ) → Option (List ℕ) → Option (List ℕ) → Seen → Seen → Result ℕ RunFault → Type 0
@@ -43,6 +44,13 @@ pub record IsSession (manner : Manner) (left leaves held holds : Option (List �
   pub doubt : new.doubt ≡ mid.doubt
   pub records : IsTrue mid.sound → OnOk ended
       (new.records ≡ replay mid.file.opening (rest_of (open_of mid.file) mid.file.history))
+
+-- whether the lines ended at one that asks for a flush
+abbrev pub is_flush : Result ℕ RunFault → Bool
+is_flush (Ok done) = false
+is_flush (Err (Faulted fault)) = false
+is_flush (Err (Refused line)) = false
+is_flush (Err Flush) = true
 
 -- a page file with these records, over a steady store that failed so often; nothing was begun
 abbrev pub opened_file : Contents → Bounds → ℕ → Seen

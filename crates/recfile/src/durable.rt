@@ -1,24 +1,26 @@
-ghost use Rattle.std.specs.Prelude.{◌≡◌, ◌≢◌, ◌≤◌, ◌∷◌, [], ℕ, Bool, None, Some, true, false, is_some, IsTrue, IsSome, IfOk, IfErr, IfSome, MatchOption};
+ghost use Rattle.std.specs.Result.{is_err};
+ghost use Rattle.std.specs.Prelude.{◌≡◌, ◌≢◌, ◌≤◌, ◌&&◌, not, ◌∷◌, [], ℕ, Bool, None, Some, true, false, is_some, IsTrue, IsSome, IfOk, IfErr, IfSome, MatchOption};
 ghost use Rattle.rec_types.specs.Contents.{Contents};
 ghost use Rattle.rec_types.specs.Table.{counted};
 ghost use Rattle.btree_delete.specs.TableView.{table_contents};
-ghost use Rattle.page_journal.specs.Files.{Belongs, Files, recovered};
+ghost use Rattle.page_journal.specs.Files.{Files, recovered};
 ghost use Rattle.recfile.specs.Beside.{IsHeadFault, IsSettledWith, LeavesEnded, LeavesOpening, LosesNone};
 ghost use Rattle.recfile.specs.Dumped.{CanBeOpened, IsFirstOrOutside, IsOutsideFile};
-ghost use Rattle.recfile.specs.DurableSession.{EndsDurably, IsBegunBeside, LeavesUnbegun, LeavesUnread, RunsLogged, StandsUnbegun};
-ghost use Rattle.recfile.specs.FileFaults.{is_device};
+ghost use Rattle.recfile.specs.DurableSession.{EndsDurably, IsBegunBeside, LeavesUnbegun, LeavesUnread, RunsLogged, StandForClosed, StandsUnbegun};
+ghost use Rattle.recfile.specs.FileFaults.{is_file_device};
 ghost use Rattle.recfile.specs.Kept.{CountsClosing, IsOutsideDisk, IsUnopened, LeavesOld, opening_file};
 ghost use Rattle.recfile.specs.LogOver.{HoldsWithin, head_line};
 ghost use Rattle.recfile.specs.Settling.{IsJustSettled};
 ghost use Rattle.recfile.specs.Statuses.{exit_status_of};
-ghost use Rattle.recfile.specs.WholeSession.{IsUncounted};
+ghost use Rattle.recfile.specs.WholeSession.{IsUncounted, is_flush};
 
 use crate::file_fault::FileFault;
 use crate::kept_file::{DiskEnd, give_back, unopened};
 use crate::log_head::head_of;
 use crate::log_keeper::LogKeeper;
 use crate::manner::Manner;
-use crate::session::run_session;
+use crate::script::RunFault;
+use crate::session::{is_flush, run_session};
 use crate::settling::{close_beside, end_beside};
 use crate::statuses::exit_status;
 use crate::streams::{CountedRead, CountedWrite, StreamCalls};
@@ -26,7 +28,7 @@ use crate::tell::tell_fault_of;
 use btree_delete::TreeTable;
 use page_journal::{Disk, KeptStore, SealState};
 use page_store::StoreState;
-use rec_types::Limits;
+use rec_types::{Limits, Table};
 use record_file::RecordFile;
 use std::alloc::Global;
 use std::io::Write;
@@ -35,12 +37,13 @@ use std::sync::ledger::Ledger;
 // Closes the file of a table, takes the log beside it away, and answers the end of the session. A fault has its line.
 fn close_logged<D: Disk + Drop, E: Write>(
     table: TreeTable<KeptStore<D>>,
-    script_fault: bool,
+    script: &Result<u32, RunFault>,
     err: &mut E,
 ) -> DiskEnd<D>
     ensures end { result ≡ record result {
-      status = exit_status_of false (is_some result.unclosed) script_fault;
+      status = exit_status_of false (is_some result.unclosed) (is_err script.now);
       unopened = None;
+      flushed = not (is_some result.unclosed) && is_flush script.now;
     } }
     ensures any_moment { IsTrue table.pages.steady → (c : Files) → D.left_since result.disk 0 c
         → LeavesEnded table.pages.opening table.tree.order (table_contents table) c }
@@ -49,12 +52,14 @@ fn close_logged<D: Disk + Drop, E: Write>(
     ensures closed { IsTrue table.pages.steady → result.unclosed ≡ None
         → IsSettledWith D.DiskState table.tree.order (table_contents table) result.disk }
     ensures fault { IfSome result.unclosed IsOutsideFile }
+    ensures steady { D.steady result.disk ≡ table.pages.steady }
 {
     let (disk, done) = close_beside(table);
     tell_fault_of(err, &done);
     DiskEnd {
-        status: exit_status(false, done.is_err(), script_fault),
+        status: exit_status(false, done.is_err(), script.is_err()),
         disk,
+        flushed: done.is_ok() && is_flush(script),
         unopened: None,
         unclosed: done.err(),
     }
@@ -74,7 +79,8 @@ fn run_logged<L: Ledger, D: Disk + Drop, R: CountedRead<L>, W: CountedWrite<L>, 
     requires limit { table.limit ≡ limits.records }
     ensures opened { result.unopened ≡ None }
     ensures ran { RunsLogged manner limits (R.left reader.old) (R.left reader.new)
-        (W.held out.old) (W.held out.new) calls.old calls.new result.unclosed result.status }
+        (W.held out.old) (W.held out.new) calls.old calls.new result.unclosed result.status
+        result.flushed }
     ensures session { IsTrue table.pages.steady → IsUncounted table
         → IsBegunBeside table.pages.opening
         → HoldsWithin limits.records table.tree.order (table_contents table)
@@ -82,9 +88,11 @@ fn run_logged<L: Ledger, D: Disk + Drop, R: CountedRead<L>, W: CountedWrite<L>, 
         → EndsDurably D.DiskState manner (R.left reader.old) (R.left reader.new)
         (W.held out.old) (W.held out.new) calls.old calls.new
         table.tree.order (table_contents table) limits table.pages.failures
-        ((head_line (opening_file table.pages.opening) ∷ []) ∷ []) result.unclosed result.status result.disk }
+        ((head_line (opening_file table.pages.opening) ∷ []) ∷ []) result.unclosed result.status result.flushed
+        result.disk }
     ensures stopped { IsTrue table.pages.steady → result.status ≡ 4
         → LeavesOld D.DiskState (opening_file table.pages.opening) result.disk }
+    ensures steady { D.steady result.disk ≡ table.pages.steady }
 {
     // No more than a file may have.
     let _most = limits.records();
@@ -100,13 +108,15 @@ fn run_logged<L: Ledger, D: Disk + Drop, R: CountedRead<L>, W: CountedWrite<L>, 
         err,
         calls,
     );
-    let script_fault = end.script.is_err();
     let table = file.abandon();
+    // No more than the limits say.
+    let _count = table.count();
     match end.ended {
-        Ok(_) => close_logged(table, script_fault, err),
+        Ok(_) => close_logged(table, &end.script, err),
         Err(_) => DiskEnd {
-            status: exit_status(true, false, script_fault),
+            status: exit_status(true, false, end.script.is_err()),
             disk: give_back(table),
+            flushed: false,
             unopened: None,
             unclosed: None,
         },
@@ -159,7 +169,7 @@ fn begin_beside<D: Disk + Drop>(
     ensures fault { IsTrue (D.steady store.disk) → IfErr result (λ stop. IsHeadFault
         (recovered (D.began store.disk)).pages (recovered (D.began store.disk)).tail stop.1) }
     ensures device { IfErr result (λ stop. D.failures stop.0
-        ≡ counted (D.failures store.disk) (is_device stop.1)) }
+        ≡ counted (D.failures store.disk) (is_file_device stop.1)) }
 {
     let mut store = store;
     let mut head = match head_of(alloc, &mut store) {
@@ -191,14 +201,15 @@ fn run_begun<L: Ledger, D: Disk + Drop, R: CountedRead<L>, W: CountedWrite<L>, E
         × IsBegunBeside (⟦<KeptStore<D> as StoreState>⟧.opening store) }
     requires unrefused { store.refusals ≡ 0 }
     ensures unread { IfSome result.unopened (λ _. (result.status ≡ 1) × (result.unclosed ≡ None)
-        × (reader.new ≡ reader.old) × (out.new ≡ out.old) × (calls.new ≡ calls.old)) }
+        × (reader.new ≡ reader.old) × (out.new ≡ out.old) × (calls.new ≡ calls.old)
+        × (result.flushed ≡ false)) }
     ensures ran { result.unopened ≡ None → RunsLogged manner limits
         (R.left reader.old) (R.left reader.new) (W.held out.old) (W.held out.new) calls.old calls.new
-        result.unclosed result.status }
+        result.unclosed result.status result.flushed }
     ensures closed { IsTrue (D.steady store.disk) → result.unopened ≡ None
         → CanBeOpened (D.seen store.disk).main.pages (D.seen store.disk).main.tail limits.records }
     ensures device { store.state ≡ SealState.Unsealed → IfSome result.unopened
-        (λ fault. CountsClosing (D.failures store.disk) true (is_device fault) (D.failures result.disk)) }
+        (λ fault. CountsClosing (D.failures store.disk) true (is_file_device fault) (D.failures result.disk)) }
     ensures untouched { IsTrue (D.steady store.disk) → IfSome result.unopened
         (λ fault. IsFirstOrOutside (D.seen store.disk).main.pages (D.seen store.disk).main.tail limits.records fault
         × ((c : Files) → D.left_since result.disk 0 c
@@ -210,8 +221,10 @@ fn run_begun<L: Ledger, D: Disk + Drop, R: CountedRead<L>, W: CountedWrite<L>, E
         → MatchOption result.unopened (EndsDurably D.DiskState manner (R.left reader.old)
         (R.left reader.new) (W.held out.old) (W.held out.new) calls.old calls.new
         order contents limits (D.failures store.disk)
-        ((head_line (D.seen store.disk).main ∷ []) ∷ []) result.unclosed result.status result.disk)
+        ((head_line (D.seen store.disk).main ∷ []) ∷ []) result.unclosed result.status result.flushed
+        result.disk)
         IsOutsideFile }
+    ensures steady { D.steady result.disk ≡ D.steady store.disk }
 {
     match TreeTable::open_from(alloc, store, limits) {
         Ok(table) => run_logged(alloc, table, limits, manner, reader, out, err, calls),
@@ -222,6 +235,7 @@ fn run_begun<L: Ledger, D: Disk + Drop, R: CountedRead<L>, W: CountedWrite<L>, E
 /// Runs a session over the page file on a disk that was just opened, beside which stands no log of commits, as `run_kept` does;
 /// but a log is begun, and each commit is kept in it before it is answered. At the end the file is closed, and the log is taken
 /// away. The status is that of `exit_status`; a fault of the file has a line on `err` when it is met. The disk comes back.
+/// Where the lines ended at a flush and the file was closed, it says so.
 ///
 /// A crash at any moment of it leaves files in which an opening finds what some of the commits make, from the first on, in
 /// their order, or all and the one in doubt. At its end it leaves what all make, with that one or without, each that was
@@ -240,15 +254,15 @@ pub fn run_durable<L: Ledger, D: Disk + Drop, R: CountedRead<L>, W: CountedWrite
 ) -> DiskEnd<D>
     requires { IsJustSettled D.DiskState disk }
     ensures unread { IfSome result.unopened (λ _. (result.status ≡ 1) × (result.unclosed ≡ None)
-        × (reader.new ≡ reader.old) × (out.new ≡ out.old) × (calls.new ≡ calls.old)) }
+        × (reader.new ≡ reader.old) × (out.new ≡ out.old) × (calls.new ≡ calls.old)
+        × (result.flushed ≡ false)) }
     ensures ran { result.unopened ≡ None → RunsLogged manner limits
         (R.left reader.old) (R.left reader.new) (W.held out.old) (W.held out.new) calls.old calls.new
-        result.unclosed result.status }
+        result.unclosed result.status result.flushed }
     ensures device { IfSome result.unopened (λ fault. CountsClosing (D.failures disk) true
-        (is_device fault) (D.failures result.disk)) }
-    ensures own { IsTrue (D.steady disk) → result.unopened ≡ None → Belongs (D.began disk) }
-    ensures closed { IsTrue (D.steady disk) → result.unopened ≡ None
-        → CanBeOpened (recovered (D.began disk)).pages (recovered (D.began disk)).tail limits.records }
+        (is_file_device fault) (D.failures result.disk)) }
+    ensures opens { IsTrue (D.steady disk) → result.unopened ≡ None
+        → StandForClosed limits.records (D.began disk) }
     ensures first { IsTrue (D.steady disk)
         → IfSome result.unopened (IsUnopened (D.began disk) limits.records) }
     ensures untouched { IsTrue (D.steady disk) → IfSome result.unopened
@@ -260,8 +274,10 @@ pub fn run_durable<L: Ledger, D: Disk + Drop, R: CountedRead<L>, W: CountedWrite
         → MatchOption result.unopened (EndsDurably D.DiskState manner (R.left reader.old)
         (R.left reader.new) (W.held out.old) (W.held out.new) calls.old calls.new
         order contents limits (D.failures disk)
-        ((head_line (recovered (D.began disk)) ∷ []) ∷ []) result.unclosed result.status result.disk)
+        ((head_line (recovered (D.began disk)) ∷ []) ∷ []) result.unclosed result.status result.flushed
+        result.disk)
         (IsOutsideDisk (D.began disk)) }
+    ensures steady { result.unopened ≡ None → D.steady result.disk ≡ D.steady disk }
 {
     let store = match KeptStore::open(alloc, disk) {
         Ok(store) => store,

@@ -9,7 +9,7 @@ ghost use Rattle.btree_node.specs.Lists.{Ascends};
 ghost use Rattle.btree_insert.specs.Sizes.{greatest_size};
 ghost use Rattle.btree_load.specs.Trees.{IsFilled};
 ghost use Rattle.recfile.specs.Dumped.{IsOutsideFile};
-ghost use Rattle.recfile.specs.FileFaults.{by_device, is_device_answer};
+ghost use Rattle.recfile.specs.FileFaults.{file_by_device, is_device_answer};
 ghost use Rattle.recfile.specs.Filling.{FillsDisk, IsBlankFile, loaded};
 ghost use Rattle.recfile.specs.Statuses.{exit_status_of};
 ghost use Rattle.recfile.specs.Kept.{ClosesSafely, CountsClosing, IsKeptWith, LeavesAs, LeavesEither, LeavesOld, opening_file, is_sealed, refused_calls};
@@ -92,7 +92,7 @@ fn end_filled<D: Disk + Drop, E: Write>(
         result.disk result.unclosed table.tree.order (loaded records.now) }
     ensures fault { IfSome result.unclosed IsOutsideFile }
     ensures device { table.pages.guard ≡ Unsealed 0 → table.pages.tail ≡ 0
-        → CountsClosing table.pages.failures (is_some result.unclosed) (by_device result.unclosed)
+        → CountsClosing table.pages.failures (is_some result.unclosed) (file_by_device result.unclosed)
         (D.failures result.disk) }
     ensures status { result.status ≡ exit_status_of false (is_some result.unclosed) false }
 {
@@ -101,6 +101,7 @@ fn end_filled<D: Disk + Drop, E: Write>(
     DiskEnd {
         status: exit_status(false, done.is_err(), false),
         disk,
+        flushed: false,
         unopened: None,
         unclosed: done.err(),
     }

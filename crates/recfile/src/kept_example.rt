@@ -79,7 +79,7 @@ pub fn run_durably_on_new_disk<L: Ledger, R: CountedRead<L>, W: CountedWrite<L>,
         × MatchOption end.unopened (EndsDurably ⟦<MemDisk as DiskState>⟧ manner
         (R.left reader.old) (R.left reader.new) (W.held out.old) (W.held out.new) calls.old calls.new
         order maps.empty limits 0 ((head_line (recovered first) ∷ []) ∷ [])
-        end.unclosed end.status end.disk)
+        end.unclosed end.status end.flushed end.disk)
         (IsOutsideDisk first)) }
 {
     let disk = new_disk(alloc, order, limits)?;

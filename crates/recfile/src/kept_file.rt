@@ -9,7 +9,7 @@ ghost use Rattle.page_journal.specs.Files.{Belongs, Files, recovered};
 ghost use Rattle.page_journal.specs.Crash.{IsAtRest};
 ghost use Rattle.recfile.specs.Beside.{FindsEach, HoldsWhole, LeavesEitherBeside, LeavesOpening};
 ghost use Rattle.recfile.specs.Dumped.{CanBeOpened, IsFirstOrOutside, IsOutsideFile};
-ghost use Rattle.recfile.specs.FileFaults.{answer_of_store, by_device, is_device, is_device_answer};
+ghost use Rattle.recfile.specs.FileFaults.{answer_of_store, file_by_device, is_file_device, is_device_answer};
 ghost use Rattle.recfile.specs.Kept.{CountsClosing, RunsOn, is_sealed, refused_calls, opening_file, LeavesAs, LeavesOld, LeavesEither, IsKeptWith, ClosesSafely, IsOutsideDisk, IsUnopened};
 ghost use Rattle.recfile.specs.Statuses.{exit_status_of};
 ghost use Rattle.recfile.specs.WholeSession.{EndsFile, IsUncounted, RunsAny, opened_file};
@@ -29,12 +29,13 @@ use std::alloc::Global;
 use std::io::Write;
 use std::sync::ledger::Ledger;
 
-/// How a session over a page file on a disk ended: its status, the disk, why the file wasn't opened, and why it wasn't
-/// closed.
+/// How a session over a page file on a disk ended: its status, the disk, whether its lines ended at a flush and the file
+/// was closed, why the file wasn't opened, and why it wasn't closed.
 #[derive(Drop)]
 pub struct DiskEnd<D: Disk + Drop> {
     pub status: u8,
     pub disk: D,
+    pub flushed: bool,
     pub unopened: Option<FileFault>,
     pub unclosed: Option<FileFault>,
 }
@@ -116,7 +117,7 @@ fn close_kept<D: Disk + Drop, E: Write>(
         result.disk result.unclosed table.tree.order (table_contents table) }
     ensures fault { IfSome result.unclosed IsOutsideFile }
     ensures device { table.pages.guard ≡ Unsealed 0 → table.pages.tail ≡ 0
-        → CountsClosing table.pages.failures (is_some result.unclosed) (by_device result.unclosed)
+        → CountsClosing table.pages.failures (is_some result.unclosed) (file_by_device result.unclosed)
         (D.failures result.disk) }
     ensures status { result.status ≡ exit_status_of false (is_some result.unclosed) script_fault }
 {
@@ -125,6 +126,7 @@ fn close_kept<D: Disk + Drop, E: Write>(
     DiskEnd {
         status: exit_status(false, done.is_err(), script_fault),
         disk,
+        flushed: false,
         unopened: None,
         unclosed: done.err(),
     }
@@ -176,6 +178,7 @@ fn run_table<L: Ledger, D: Disk + Drop, R: CountedRead<L>, W: CountedWrite<L>, E
         Err(_) => DiskEnd {
             status: exit_status(true, false, script_fault),
             disk: give_back(table),
+            flushed: false,
             unopened: None,
             unclosed: None,
         },
@@ -191,6 +194,7 @@ pub(crate) fn unopened<D: Disk + Drop, E: Write>(
     ensures { result ≡ record {
       status = 1;
       disk = disk;
+      flushed = false;
       unopened = Some fault;
       unclosed = None;
     } }
@@ -199,6 +203,7 @@ pub(crate) fn unopened<D: Disk + Drop, E: Write>(
     DiskEnd {
         status: exit_status(false, true, false),
         disk,
+        flushed: false,
         unopened: Some(fault),
         unclosed: None,
     }
@@ -224,7 +229,7 @@ fn run_stored<L: Ledger, D: Disk + Drop, R: CountedRead<L>, W: CountedWrite<L>, 
         (R.left reader.old) (R.left reader.new) (W.held out.old) (W.held out.new) calls.old calls.new
         result.unclosed result.status result.disk }
     ensures device { IfSome result.unopened (λ fault. D.failures result.disk
-        ≡ counted (D.failures store.disk) (is_device fault)) }
+        ≡ counted (D.failures store.disk) (is_file_device fault)) }
     ensures closed { IsTrue (D.steady store.disk) → result.unopened ≡ None
         → CanBeOpened (recovered (D.began store.disk)).pages (recovered (D.began store.disk)).tail limits.records }
     ensures first { IsTrue (D.steady store.disk) → IfSome result.unopened
@@ -279,7 +284,7 @@ pub fn run_kept<L: Ledger, D: Disk + Drop, R: CountedRead<L>, W: CountedWrite<L>
         (R.left reader.old) (R.left reader.new) (W.held out.old) (W.held out.new) calls.old calls.new
         result.unclosed result.status result.disk }
     ensures device { IfSome result.unopened (λ fault. D.failures result.disk
-        ≡ counted (D.failures disk) (is_device fault)) }
+        ≡ counted (D.failures disk) (is_file_device fault)) }
     ensures own { IsTrue (D.steady disk) → result.unopened ≡ None → Belongs (D.began disk) }
     ensures closed { IsTrue (D.steady disk) → result.unopened ≡ None
         → CanBeOpened (recovered (D.began disk)).pages (recovered (D.began disk)).tail limits.records }

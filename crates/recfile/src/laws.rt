@@ -1,5 +1,5 @@
 //! Facts of the definitions that contracts of this crate cite.
-ghost use Rattle.std.specs.Prelude.{◌≡◌, ◌≢◌, ◌⊎◌, ◌<◌, ℕ, length, List, [], ◌∷◌, Option, Some, None, Result, Ok, Err, IsTrue, true, false, slice_get, codes};
+ghost use Rattle.std.specs.Prelude.{◌≡◌, ◌≢◌, ◌⊎◌, ◌<◌, ℕ, Bool, length, List, [], ◌∷◌, Option, Some, None, Result, Ok, Err, IsTrue, true, false, slice_get, codes};
 ghost use Rattle.std.specs.FinMap as maps;
 ghost use Rattle.std.specs.List.{All, flat_map};
 ghost use Rattle.rec_types.specs.Contents.{Contents, set_to};
@@ -9,10 +9,10 @@ ghost use Rattle.rec_types.specs.declared.transaction.TxId.{TxId};
 ghost use Rattle.record_file.specs.Abstract.{File, new_file, open_of};
 ghost use Rattle.record_file.specs.Durable.{overlay};
 ghost use Rattle.record_file.specs.Runs.{IsKeptSeen, Seen};
-ghost use Rattle.page_store.specs.Journal.{Journal, noted};
+ghost use Rattle.page_store.specs.Journal.{Journal, noted_steps};
 ghost use Rattle.page_store.specs.declared.step.Step.TheVariants as steps;
-ghost use Rattle.page_journal.specs.Examples.{alone, both_writes, old_file};
-ghost use Rattle.page_journal.specs.Files.{PageFile, Kept, Files, Belongs, recovered};
+ghost use Rattle.page_journal.specs.Examples.{without_side_file, both_writes, old_file};
+ghost use Rattle.page_journal.specs.Files.{PageFile, SideFile, Files, Belongs, recovered};
 ghost use Rattle.page_journal.specs.History.{History, LeftSince, MayLeave, all_done};
 ghost use Rattle.page_journal.specs.declared.disk_call.DiskCall.{DiskCall};
 ghost use Rattle.btree_delete.specs.Closing.{closing};
@@ -21,21 +21,23 @@ ghost use Rattle.commit_paper.specs.Text.{log_text, AreUnits};
 ghost use Rattle.command_text.specs.declared.command.Command.TheVariants as command;
 ghost use Rattle.command_text.specs.Dump.{dump_text, CanBePut};
 ghost use Rattle.command_text.specs.Refusals.{is_refusal};
-ghost use Rattle.command_text.specs.Script.{entries_in, entries_of};
+ghost use Rattle.command_text.specs.Script.{entries_in, commands_of};
 ghost use Rattle.command_text.specs.Units.{Write, unit_commands};
 ghost use Rattle.command_text.specs.declared.reply.Reply.{Reply};
 ghost use Rattle.recfile.specs.DurableSession.{AreFirstCommits, EndsDurably};
 ghost use Rattle.record_texts.specs.declared.form.Form.TheVariants.{Tsv};
 ghost use Rattle.recfile.specs.Dumped.{ReadingStops};
 ghost use Rattle.recfile.specs.Ending.{EndsAll, without};
+ghost use Rattle.recfile.specs.Flushing.{Flushes, SessionPoint};
 ghost use Rattle.recfile.specs.Examples.{four_changes, two_taken_back};
 ghost use Rattle.recfile.specs.Kept.{ClosesSafely, CountsClosing, HasRecords, IsKeptWith, LeavesEither};
-ghost use Rattle.recfile.specs.LogOver.{Finds, HoldsRecords, IsHead, IsLogOver};
+ghost use Rattle.recfile.specs.LogOver.{Finds, HoldsRecords, HoldsWithin, IsHead, IsLogOver};
 ghost use Rattle.recfile.specs.Overlaid.{IsLogCommand, SayWrites, writes_in_turn, writes_said};
 ghost use Rattle.recfile.specs.Room.{HasRoomFor, was_kept};
 ghost use Rattle.recfile.specs.Run.{Session};
 ghost use Rattle.recfile.specs.SessionCommits.{IsInDoubt, MakesCommits, in_doubt};
 ghost use Rattle.recfile.specs.Settling.{FindsAny, PutsRight};
+ghost use Rattle.recfile.specs.Shell.{StopsAtFlush};
 ghost use Rattle.recfile.specs.Spelled.{SpellsLines};
 ghost use Rattle.recfile.specs.StoreSession.{WritesBack};
 ghost use Rattle.recfile.specs.Streams.{CallsMade, TellsFailed, no_call, run_read_fault, run_write_fault};
@@ -57,13 +59,13 @@ use page_journal::{DiskState, MemDisk};
 /// of a log.
 pub fn logs_are_read()
     ensures said { (units : List (List (List ℕ))) → AreUnits units
-        → entries_of (log_text units) ≡ flat_map entries_in units }
+        → commands_of (log_text units) ≡ flat_map entries_in units }
     ensures found { (units : List (List (List ℕ))) (kept : List (List Write)) → AreUnits units
-        → SayWrites units kept → writes_said (entries_of (log_text units)) ≡ writes_in_turn kept }
+        → SayWrites units kept → writes_said (commands_of (log_text units)) ≡ writes_in_turn kept }
     ensures logged { (n : ℕ) (es : List Write) → All IsLogCommand (unit_commands n es) }
     ensures newest_first { (units : List (List (List ℕ))) → AreUnits units
         → SayWrites units (((97 ∷ [], None) ∷ []) ∷ ((98 ∷ [], None) ∷ []) ∷ [])
-        → writes_said (entries_of (log_text units)) ≡ (98 ∷ [], None) ∷ (97 ∷ [], None) ∷ [] → ⊥ }
+        → writes_said (commands_of (log_text units)) ≡ (98 ∷ [], None) ∷ (97 ∷ [], None) ∷ [] → ⊥ }
     ensures uncommitted { AreUnits ((codes "begin" ∷ codes "del 1 a" ∷ []) ∷ []) → ⊥ }
     ensures rollback { (t : TxId) → IsLogCommand (Ok (command.Abort t)) → ⊥ }
 {}
@@ -103,33 +105,37 @@ pub fn commits_last_in_order()
 pub fn durable_sessions_by_example()
     ensures lost { (manner : Manner) (left leaves held holds : Option (List ℕ))
         (before after : CallsMade) (order : ℕ) (contents : Contents) (limits : Bounds) (failures : ℕ)
-        (commits : List (List (List ℕ))) (unclosed : Option FileFault) (status : ℕ) (disk : History)
+        (commits : List (List (List ℕ))) (unclosed : Option FileFault) (status : ℕ) (flushed : Bool)
+        (disk : History)
         → (ends : EndsDurably ⟦<MemDisk as DiskState>⟧ manner left leaves held holds before after
-        order contents limits failures commits unclosed status disk) → (es : List Write) (c : Files)
+        order contents limits failures commits unclosed status flushed disk) → (es : List Write) (c : Files)
         → ends.made.kept ≡ es ∷ [] → in_doubt ends.made.doubted ≡ []
         → overlay contents es ≢ contents → MayLeave disk.first disk.calls c
         → Finds order contents c → ⊥ }
     ensures made_up { (manner : Manner) (left leaves held holds : Option (List ℕ))
         (before after : CallsMade) (order : ℕ) (contents : Contents) (limits : Bounds) (failures : ℕ)
-        (commits : List (List (List ℕ))) (unclosed : Option FileFault) (status : ℕ) (disk : History)
+        (commits : List (List (List ℕ))) (unclosed : Option FileFault) (status : ℕ) (flushed : Bool)
+        (disk : History)
         → (ends : EndsDurably ⟦<MemDisk as DiskState>⟧ manner left leaves held holds before after
-        order contents limits failures commits unclosed status disk) → (others : Contents) (c : Files)
+        order contents limits failures commits unclosed status flushed disk) → (others : Contents) (c : Files)
         → ends.made.kept ≡ [] → in_doubt ends.made.doubted ≡ [] → others ≢ contents
         → LeftSince disk.first disk.calls 0 c → Finds order others c → ⊥ }
     ensures alone { (manner : Manner) (left leaves held holds : Option (List ℕ))
         (before after : CallsMade) (order : ℕ) (contents : Contents) (limits : Bounds) (failures : ℕ)
-        (commits : List (List (List ℕ))) (unclosed : Option FileFault) (status : ℕ) (disk : History)
+        (commits : List (List (List ℕ))) (unclosed : Option FileFault) (status : ℕ) (flushed : Bool)
+        (disk : History)
         → (ends : EndsDurably ⟦<MemDisk as DiskState>⟧ manner left leaves held holds before after
-        order contents limits failures commits unclosed status disk) → (a b : List Write) (c : Files)
+        order contents limits failures commits unclosed status flushed disk) → (a b : List Write) (c : Files)
         → ends.made.kept ≡ a ∷ [] → in_doubt ends.made.doubted ≡ b ∷ []
         → overlay contents b ≢ overlay contents a
         → overlay contents b ≢ overlay (overlay contents a) b
         → MayLeave disk.first disk.calls c → Finds order (overlay contents b) c → ⊥ }
     ensures unended { (manner : Manner) (left leaves held holds : Option (List ℕ))
         (before after : CallsMade) (order : ℕ) (contents : Contents) (limits : Bounds) (failures : ℕ)
-        (commits : List (List (List ℕ))) (status : ℕ) (disk : History)
+        (commits : List (List (List ℕ))) (status : ℕ) (flushed : Bool)
+        (disk : History)
         → (ends : EndsDurably ⟦<MemDisk as DiskState>⟧ manner left leaves held holds before after
-        order contents limits failures commits None status disk) → (count : ℕ) (c : Files)
+        order contents limits failures commits None status flushed disk) → (count : ℕ) (c : Files)
         → ends.run.ended ≡ Ok count → MayLeave disk.first disk.calls c
         → c.commits.log ≢ None → ⊥ }
     ensures unbegun { (old new : Seen) (es : List Write) (contents : Contents) (limits : Bounds)
@@ -207,11 +213,11 @@ pub fn closings_by_example()
         → IsKeptWith ⟦<MemDisk as DiskState>⟧ later others disk → ⊥ }
     ensures unsynced { (main : PageFile) (page : List ℕ) (failures order : ℕ) (records : Contents)
         → slice_get main.pages 0 ≢ Some page → IsKeptWith ⟦<MemDisk as DiskState>⟧ order records (record {
-          first = alone main;
+          first = without_side_file main;
           calls = DiskCall.Write 0 page ∷ [];
           failures = failures;
         }) → ⊥ }
-    ensures side_file { (first : Files) (kept : Kept) (failures order : ℕ) (records : Contents)
+    ensures side_file { (first : Files) (kept : SideFile) (failures order : ℕ) (records : Contents)
         → first.side ≡ Some kept → IsKeptWith ⟦<MemDisk as DiskState>⟧ order records (record {
           first = first;
           calls = [];
@@ -219,7 +225,7 @@ pub fn closings_by_example()
         }) → ⊥ }
     ensures third_file { (failures order : ℕ) (records : Contents)
         → LeavesEither ⟦<MemDisk as DiskState>⟧ old_file order records (record {
-          first = alone old_file;
+          first = without_side_file old_file;
           calls = both_writes;
           failures = failures;
         }) → ⊥ }
@@ -242,7 +248,7 @@ pub fn closings_by_example()
 pub fn dumps_are_loaded()
     ensures { (old new : Seen) (records : Contents) (replies : List Reply)
         → IsTrue old.sound → old.records ≡ maps.empty → All CanBePut (maps.entries records)
-        → Session old (entries_of (dump_text (maps.entries records))) replies new
+        → Session old (commands_of (dump_text (maps.entries records))) replies new
         → All (λ r. is_refusal r ≡ false) replies → new.records ≡ records }
 {}
 
@@ -253,7 +259,7 @@ pub fn dumps_have_room()
         → old.file ≡ new_file maps.empty limits → IsTrue old.sound
         → old.failures < greatest_count → All CanBePut (maps.entries records)
         → HasRoomFor (length (maps.entries records)) limits
-        → Session old (entries_of (dump_text (maps.entries records))) replies new
+        → Session old (commands_of (dump_text (maps.entries records))) replies new
         → All (λ r. was_kept r ≡ false) replies → All (λ r. is_refusal r ≡ false) replies }
     ensures fewer { (limits : Bounds) → limits.records ≡ 1 → HasRoomFor 2 limits → ⊥ }
 {}
@@ -265,10 +271,10 @@ pub fn closings_write_back_once()
     ensures nothing { (old : Journal) (t : TableView) → t.pages.changed ≡ true
         → WritesBack (Some old) t None (Some old) → ⊥ }
     ensures twice { (old : Journal) (t : TableView) → t.pages.changed ≡ true
-        → WritesBack (Some old) t None (noted (noted (Some old) (closing t)) (closing t)) → ⊥ }
+        → WritesBack (Some old) t None (noted_steps (noted_steps (Some old) (closing t)) (closing t)) → ⊥ }
     ensures kept_first { (old : Journal) (t : TableView) (fault : FileFault) → old.steps ≡ []
         → t.pages.changed ≡ true
-        → WritesBack (Some old) t (Some fault) (noted (Some old) (steps.Sync ∷ [])) → ⊥ }
+        → WritesBack (Some old) t (Some fault) (noted_steps (Some old) (steps.Sync ∷ [])) → ⊥ }
     ensures unchanged { (old new : Journal) (t : TableView) → t.pages.changed ≡ false
         → WritesBack (Some old) t None (Some new) → new.steps ≡ old.steps }
     ensures no_memory { (old new : Option Journal) (t : TableView)
@@ -286,6 +292,26 @@ pub fn sessions_and_crashes()
         → LeftSince two.first two.calls 0 left
         → Belongs left × ((recovered left ≡ old) ⊎ HasRecords order first (recovered left)
         ⊎ HasRecords later second (recovered left)) }
+{}
+
+/// What no row of durable sessions does: take a flush while a transaction is open, or where no line asks for it; go on without
+/// the reply, or over records that lack a commit.
+pub fn flushes_by_example()
+    ensures unfinished { (strict : Bool) (left leaves held holds : Option (List ℕ)) (old new : Seen)
+        → StopsAtFlush strict left leaves held holds old new → maps.len new.file.txs ≡ 1 → ⊥ }
+    ensures unasked { (strict : Bool) (left : List ℕ) (held holds : Option (List ℕ)) (old new : Seen)
+        → StopsAtFlush strict (Some left) (Some left) held holds old new → ⊥ }
+    ensures silent { (manner : Manner) (limits : Bounds) (old new : SessionPoint History)
+        → (goes : Flushes ⟦<MemDisk as DiskState>⟧ manner limits old new)
+        → goes.closed.held ≡ Some [] → new.held ≡ Some [] → ⊥ }
+    ensures lost { (manner : Manner) (limits : Bounds) (old new : SessionPoint History)
+        → (goes : Flushes ⟦<MemDisk as DiskState>⟧ manner limits old new) → (order : ℕ)
+        → (contents : Contents) → (steady : IsTrue true)
+        → (holds : HoldsWithin limits.records order contents (recovered old.disk.first))
+        → (es : List Write)
+        → (goes.session.session steady order contents holds).made.kept ≡ es ∷ []
+        → overlay contents es ≢ contents
+        → HoldsWithin limits.records order contents (recovered new.disk.first) → ⊥ }
 {}
 
 /// What puts no page file right, by disks in memory. Where an opening finds records in the old files, the file doesn't have

@@ -1,7 +1,7 @@
 ghost use Rattle.std.specs.Prelude.{◌≡◌, Ok, IsTrue, IfErr, OnOk};
 ghost use Rattle.std.specs.List.{All};
 ghost use Rattle.rec_types.specs.Table.{counted};
-ghost use Rattle.command_text.specs.Script.{entries_of};
+ghost use Rattle.command_text.specs.Script.{commands_of};
 ghost use Rattle.record_file.specs.Durable.{overlay};
 ghost use Rattle.recfile.specs.Beside.{IsOverlayFault};
 ghost use Rattle.recfile.specs.FileFaults.{is_device_overlay};
@@ -84,10 +84,10 @@ fn overlay_line<T: Table>(
 /// log; those of the table. Some writes are made then.
 pub fn overlay_text<T: Table>(table: &mut T, text: &[u8]) -> Result<(), OverlayFault>
     ensures said { IsTrue (T.sound table.old) → OnOk result (T.contents table.new
-        ≡ overlay (T.contents table.old) (writes_said (entries_of text.now))) }
-    ensures logged { OnOk result (All IsLogCommand (entries_of text.now)) }
+        ≡ overlay (T.contents table.old) (writes_said (commands_of text.now))) }
+    ensures logged { OnOk result (All IsLogCommand (commands_of text.now)) }
     ensures refused { IsTrue (T.sound table.old)
-        → IfErr result (IsOverlayFault (All IsLogCommand (entries_of text.now))) }
+        → IfErr result (IsOverlayFault (All IsLogCommand (commands_of text.now))) }
     ensures sound { T.sound table.new ≡ T.sound table.old }
     ensures origin { T.origin table.new ≡ T.origin table.old }
     ensures failures { T.device_failures table.new

@@ -8,12 +8,12 @@ ghost use Rattle.page_store.specs.FreeNumbers.{free_numbers};
 ghost use Rattle.page_store.specs.StoreCalls.{StaysStore};
 ghost use Rattle.btree_node.specs.Layout.{second_version};
 ghost use Rattle.btree_insert.specs.declared.tree.Tree.{Tree as TreeValue};
-ghost use Rattle.btree_delete.specs.CleanFile.{IsFirst, IsOutside, is_device_fault};
+ghost use Rattle.btree_delete.specs.CleanFile.{IsFirst, IsOutside, is_open_device_fault};
 ghost use Rattle.btree_delete.specs.Created.{IsOrder};
 ghost use Rattle.btree_delete.specs.Origins.{opened_in, origin_of};
 ghost use Rattle.btree_delete.specs.TableView.{IsClosed, table_contents};
 ghost use Rattle.recfile.specs.Dumped.{CanBeOpened, DumpStops, IsDumpFault, IsOutsideFile, IsSilent, is_device_dump};
-ghost use Rattle.recfile.specs.FileFaults.{IsMakingFault, IsRefusal, by_device, is_device_answer};
+ghost use Rattle.recfile.specs.FileFaults.{IsMakingFault, IsRefusal, file_by_device, is_device_answer};
 ghost use Rattle.recfile.specs.Statuses.{exit_status_of};
 ghost use Rattle.recfile.specs.StoreSession.{ClosesIn, MakesIn, RunsIn, WritesBack, wants_shape};
 ghost use Rattle.recfile.specs.Tasks.{IsTreeLine, Writes};
@@ -188,7 +188,7 @@ fn close_in<S: Store, E: Write>(table: TreeTable<S>, script_fault: bool, err: &m
     ensures fault { IfSome result.unclosed IsOutsideFile }
     ensures status { result.status ≡ exit_status_of false (is_some result.unclosed) script_fault }
     ensures device { S.failures result.store
-        ≡ counted table.pages.failures (by_device result.unclosed) }
+        ≡ counted table.pages.failures (file_by_device result.unclosed) }
 {
     match table.close() {
         Ok(store) => FileEnd {
@@ -225,13 +225,13 @@ fn run_opened<L: Ledger, S: Store, R: CountedRead<L>, W: CountedWrite<L>, E: Wri
     requires limit { table.limit ≡ limits.records }
     ensures opened { result.unopened ≡ None }
     ensures asked { S.shapes result.store ≡ table.pages.shapes }
-    ensures ran { (store : S) → origin_of table ≡ opened_in S.StoreState table.tree.order store
+    ensures ran { (store : S) → origin_of table ≡ opened_in S.StoreState table.tree.order table.limit store
         → RunsIn S.StoreState store result.store manner limits (R.left reader.old)
         (R.left reader.new) (W.held out.old) (W.held out.new) calls.old calls.new
         result.unclosed result.status }
-    ensures stopped { (store : S) → origin_of table ≡ opened_in S.StoreState table.tree.order store
+    ensures stopped { (store : S) → origin_of table ≡ opened_in S.StoreState table.tree.order table.limit store
         → result.status ≡ 4 → StaysStore S.StoreState store result.store }
-    ensures session { (store : S) → origin_of table ≡ opened_in S.StoreState table.tree.order store
+    ensures session { (store : S) → origin_of table ≡ opened_in S.StoreState table.tree.order table.limit store
         → IsTrue table.pages.steady → IsUncounted table
         → EndsFile manner (R.left reader.old) (R.left reader.new)
         (W.held out.old) (W.held out.new) calls.old calls.new
@@ -280,7 +280,7 @@ pub fn run_in<L: Ledger, S: Store, R: CountedRead<L>, W: CountedWrite<L>, E: Wri
     ensures unread { IfSome result.unopened (λ _. (result.status ≡ 1) × (result.unclosed ≡ None)
         × (reader.new ≡ reader.old) × (out.new ≡ out.old) × (calls.new ≡ calls.old)) }
     ensures untouched { IfSome result.unopened (λ fault. StaysStore S.StoreState store result.store
-        × (S.failures result.store ≡ counted (S.failures store) (is_device_fault fault))) }
+        × (S.failures result.store ≡ counted (S.failures store) (is_open_device_fault fault))) }
     ensures asked { S.shapes result.store ≡ counted (S.shapes store) true }
     ensures closed { IsTrue (S.steady store) → result.unopened ≡ None
         → CanBeOpened (S.pages store) (S.tail store) limits.records }

@@ -4,9 +4,9 @@ ghost use Rattle.recfile.specs.Filling.{CanFill, FillsAt, LooksAt};
 ghost use Rattle.recfile.specs.Settling.{IsJustSettled, SettlesAt};
 ghost use Rattle.recfile.specs.Tasks.{RunsOver};
 
-use crate::durable::run_durable;
 use crate::file_fault::FileFault;
 use crate::filling::fill_blank;
+use crate::flushing::run_flushing;
 use crate::kept_file::{DiskEnd, run_kept};
 use crate::manner::Manner;
 use crate::page_files::PageFiles;
@@ -36,6 +36,7 @@ fn end_at<P: PageFiles, E: Write>(
         disk,
         unopened,
         unclosed,
+        ..
     } = end;
     drop(disk);
     tell_device(
@@ -95,13 +96,13 @@ fn run_settled<L: Ledger, D: Disk + Drop, R: CountedRead<L>, W: CountedWrite<L>,
         result.unopened result.unclosed result.disk result.status }
 {
     if durable {
-        run_durable(alloc, disk, limits, manner, reader, out, err, calls)
+        run_flushing(alloc, disk, limits, manner, reader, out, err, calls)
     } else {
         run_kept(alloc, disk, limits, manner, reader, out, err, calls)
     }
 }
 
-/// Runs a session over the page file at a path, as `run_durable` does where it is to be durable, and else as `run_kept` does;
+/// Runs a session over the page file at a path, as `run_flushing` does where it is to be durable, and else as `run_kept` does;
 /// what a stop left of the file is put right first. Where its device fails, `err` gets a line that says why.
 pub fn run_at_path<L: Ledger, P: PageFiles, R: CountedRead<L>, W: CountedWrite<L>, E: Write>(
     files: &P,

@@ -4,7 +4,7 @@ ghost use Rattle.recfile.specs.Streams.{IsBlankFor, TellsFailed, read_fault, wri
 ghost use Rattle.std.specs.List.{flat_map};
 ghost use Rattle.std.specs.Io.KnownBytes.{Appends};
 ghost use Rattle.recfile.specs.Whole.{IsWhole, longest_script};
-ghost use Rattle.command_text.specs.Script.{entries_of};
+ghost use Rattle.command_text.specs.Script.{commands_of};
 ghost use Rattle.command_text.specs.Texts.{text_of};
 ghost use Rattle.recfile.specs.Run.{Session, Finished, Faulted, ReadStops, LineSent, AcceptedIf, LinesStop, NotRefused, Ran, run_of, commands};
 ghost use Rattle.record_file.specs.Runs.{seen_as};
@@ -37,14 +37,16 @@ pub enum ScriptFault {
     Memory { done: u32 },
 }
 
-/// Why a script that refusals may end wasn't run to its end: a fault, or the reply to the line of this number is a
-/// refusal. Lines are counted from 1, with those that say nothing.
+/// Why lines that refusals may end weren't run to their end: a fault; or the reply to the line of this number is a
+/// refusal, where lines are counted from 1, with those that say nothing; or one asks for a flush.
 #[derive(Clone, Copy, Debug, PartialEq, Eq, Error)]
 pub enum RunFault {
     #[error("{0}")]
     Script(ScriptFault),
     #[error("Refused {line}")]
     Refused { line: u32 },
+    #[error("Flush")]
+    Flush,
 }
 
 impl From<ScriptFault> for RunFault {
@@ -159,7 +161,7 @@ fn unrefused(ran: Result<u32, RunFault>) -> Result<u32, ScriptFault>
     match ran {
         Ok(done) => Ok(done),
         Err(RunFault::Script(fault)) => Err(fault),
-        Err(RunFault::Refused { .. }) => unreachable!(),
+        Err(RunFault::Refused { .. } | RunFault::Flush) => unreachable!(),
     }
 }
 
@@ -175,10 +177,10 @@ fn run_lines<L: Ledger, T: Table, K: CommitKeeper<T>, W: CountedWrite<L>>(
 ) -> Result<u32, RunFault>
     requires { length script.now ≤ longest_script }
     ensures finished { IfOk result (λ done. (replies : List Reply)
-        × Session (seen_as K.keeps T.TableState file.old) (entries_of script.now) replies
+        × Session (seen_as K.keeps T.TableState file.old) (commands_of script.now) replies
         (seen_as K.keeps T.TableState file.new)
         × Appends (W.held writer.old) (W.held writer.new) (flat_map text_of replies)
-        × (done ≡ commands (entries_of script.now)) × AcceptedIf strict replies) }
+        × (done ≡ commands (commands_of script.now)) × AcceptedIf strict replies) }
     ensures stops { IfErr result (LinesStop strict (W.held writer.old) (W.held writer.new)
         (seen_as K.keeps T.TableState file.old) (seen_as K.keeps T.TableState file.new) script.now) }
     ensures moves { K.moves file.old.table file.new.table }
@@ -256,7 +258,7 @@ fn write_alone<L: Ledger, W: Write>(writer: &mut W, text: &[u8], blank: Blank) -
 
 // Writes a text whole, and notes whether a write failed. At one that fails, or takes nothing, it answers how many bytes
 // are written.
-fn send_text<L: Ledger, W: CountedWrite<L>>(
+pub(crate) fn send_text<L: Ledger, W: CountedWrite<L>>(
     writer: &mut W,
     text: &[u8],
     calls: &mut StreamCalls<L>,

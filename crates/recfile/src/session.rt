@@ -1,8 +1,8 @@
-ghost use Rattle.std.specs.Prelude.{None};
+ghost use Rattle.std.specs.Prelude.{◌≡◌, None};
 ghost use Rattle.record_file.specs.Runs.{Seen, seen_as};
 ghost use Rattle.recfile.specs.Streams.{TellsFailed, run_read_fault, run_write_fault};
 ghost use Rattle.recfile.specs.Whole.{empty_file};
-ghost use Rattle.recfile.specs.WholeSession.{IsSession, RanAs, RunsFile};
+ghost use Rattle.recfile.specs.WholeSession.{IsSession, RanAs, RunsFile, is_flush};
 
 use crate::commit_keeper::CommitKeeper;
 use crate::endings::{EndFault, end_all};
@@ -49,9 +49,16 @@ pub fn run_feed<L: Ledger, T: Table, K: CommitKeeper<T>, R: CountedRead<L>, W: C
     }
 }
 
+/// Whether the lines ended at one that asks for a flush.
+pub(crate) fn is_flush(script: &Result<u32, RunFault>) -> bool
+    ensures { result ≡ is_flush script.now }
+{
+    matches!(script, Err(RunFault::Flush))
+}
+
 /// Runs the lines that the reader has over a file, writes their replies to `out`, and then ends every transaction that
 /// is open. The manner says how the lines come and whether a refusal ends them. Where they aren't run to their end, and
-/// where a transaction can't be ended, `err` gets a line that names the fault. The fault of the lines is ReadFault exactly
+/// where a transaction can't be ended, `err` gets a line that names the fault, but for a flush. The fault of the lines is ReadFault exactly
 /// where a read failed, and WriteFault exactly where a write to `out` failed or took nothing.
 pub fn run_session<
     L: Ledger,
@@ -78,7 +85,9 @@ pub fn run_session<
         (run_write_fault result.script) calls.new }
 {
     let script = run_feed(alloc, manner, reader, out, file, keeper, calls);
-    tell_fault_of(err, &script);
+    if !is_flush(&script) {
+        tell_fault_of(err, &script);
+    }
     let ended = end_all(file);
     tell_fault_of(err, &ended);
     SessionEnd { script, ended }

@@ -4,7 +4,7 @@ ghost use Rattle.std.specs.Result.{is_err};
 ghost use Rattle.rec_types.specs.Contents.{Contents};
 ghost use Rattle.rec_types.specs.Table.{counted, is_device};
 ghost use Rattle.commit_paper.specs.Text.{AreUnits, log_text};
-ghost use Rattle.command_text.specs.Script.{entries_of};
+ghost use Rattle.command_text.specs.Script.{commands_of};
 ghost use Rattle.btree_delete.specs.TableView.{table_contents};
 ghost use Rattle.page_store.specs.Guards.{Unsealed};
 ghost use Rattle.page_journal.specs.Crash.{IsAtRest, IsSettled, LeavesOnly, LeavesPages};
@@ -51,7 +51,7 @@ fn values_of<T: Table>(
     text: &[u8],
 ) -> Result<Vec<Option<Record>>, TableFault>
     ensures values { IsTrue (T.sound table.old) → IfOk result (λ values. values.items
-        ≡ values_at (T.contents table.old) (writes_said (entries_of text.now))) }
+        ≡ values_at (T.contents table.old) (writes_said (commands_of text.now))) }
     ensures fault { IsTrue (T.sound table.old) → IfErr result IsTableOutside }
     ensures same { T.contents table.new ≡ T.contents table.old }
     ensures sound { T.sound table.new ≡ T.sound table.old }
@@ -75,10 +75,10 @@ fn values_of<T: Table>(
 // Puts commits of a log that isn't known to be that of the file over the records of a table, where they change none.
 fn put_unchanged<T: Table>(alloc: Global, table: &mut T, text: &[u8]) -> Result<(), FileFault>
     ensures over { IsTrue (T.sound table.old) → OnOk result (SayOver (T.contents table.old)
-        (entries_of text.now) (T.contents table.new)
+        (commands_of text.now) (T.contents table.new)
         × (T.contents table.new ≡ T.contents table.old)) }
     ensures fault { IsTrue (T.sound table.old) → IfErr result (IsUnput
-        (SayOver (T.contents table.old) (entries_of text.now) (T.contents table.old))) }
+        (SayOver (T.contents table.old) (commands_of text.now) (T.contents table.old))) }
     ensures stays { StaysTable T.TableState table.old result table.new }
 {
     let before = values_of(alloc, table, text)?;

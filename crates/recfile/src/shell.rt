@@ -1,12 +1,13 @@
-ghost use Rattle.std.specs.Prelude.{◌≡◌, ◌+◌, ◌++◌, ◌||◌, ℕ, false, List, Option, OnOk, IfErr, MatchResult, if◌then◌else◌};
+ghost use Rattle.std.specs.Prelude.{◌≡◌, ◌+◌, ◌++◌, ◌||◌, ℕ, false, IsTrue, List, Option, OnOk, IfErr, MatchResult, if◌then◌else◌};
 ghost use Rattle.std.specs.Result.{is_err};
+ghost use Rattle.std.specs.FinMap as maps;
 ghost use Rattle.recfile.specs.Streams.{TellsFailed, run_read_fault, run_write_fault};
 ghost use Rattle.std.specs.Io.{ReadsAtMost};
 ghost use Rattle.std.specs.Io.KnownBytes.{ReadConsumes};
 ghost use Rattle.record_file.specs.Runs.{Seen, seen_as};
 ghost use Rattle.command_text.specs.Script.{bounded_entries_in, ended_lines, lines_of};
 ghost use Rattle.recfile.specs.Run.{commands, says_command};
-ghost use Rattle.recfile.specs.Shell.{LinesAnswered, AnsweredSoFar, IsAnswered, LineAnswered, LineStops, RanLines, Start, StopsAtLine, counted_to};
+ghost use Rattle.recfile.specs.Shell.{AsksFlush, LinesAnswered, AnsweredSoFar, IsAnswered, LineAnswered, LineStops, RanLines, Start, StopsAtLine, counted_to};
 
 use crate::call::command_count;
 use crate::commit_keeper::CommitKeeper;
@@ -23,6 +24,9 @@ use std::sync::ledger::Ledger;
 
 // How many bytes are read at a time.
 const CHUNK: usize = 4096;
+
+// The line by which a session asks for a flush.
+const FLUSH: &[u8] = b"flush\n";
 
 /// How many commands and how many lines were run; a count stays at its greatest number.
 #[derive(Clone, Copy)]
@@ -46,9 +50,10 @@ impl Counts {
 /// Runs the lines that a reader has, each as soon as it is read: its reply is written before more is read. What follows
 /// the last LF is a line, where it has a byte. A line has at most 65,536 bytes; of a longer one nothing is kept. It
 /// answers how many commands there were, or 4,294,967,295 where there were more; where it is `strict`, the first reply
-/// that is a refusal ends it, once it is written. It takes 65,536 bytes of memory, and what the calls and replies take.
+/// that is a refusal ends it, once it is written. So does a line `flush` that one read gives, where commits are kept and
+/// no transaction is open; it has no reply yet. It takes 65,536 bytes of memory, and what the calls and replies take.
 /// Faults: Memory { done: 0 }, where nothing is read; ReadFault, exactly where a read failed; WriteFault, exactly where
-/// a write failed or took nothing; Memory and Refused where they are met;
+/// a write failed or took nothing; Memory, Refused and Flush where they are met;
 /// ScriptTooLong after 2^64 - 1 reads.
 pub fn run_shell<L: Ledger, T: Table, K: CommitKeeper<T>, R: CountedRead<L>, W: CountedWrite<L>>(
     alloc: Global,
@@ -103,17 +108,22 @@ fn run_answered<L: Ledger, T: Table, K: CommitKeeper<T>, R: CountedRead<L>, W: C
             Ok(0) => return answer_last(
                 &mut text, strict, &mut part, counts, writer, file, keeper, calls,
             ),
-            Ok(n) => answer_lines(
-                &mut text,
-                strict,
-                &chunk[..n],
-                &mut part,
-                &mut counts,
-                writer,
-                file,
-                keeper,
-                calls,
-            )?,
+            Ok(n) => {
+                if asks_flush(keeper, file, &part, &chunk[..n]) {
+                    return Err(RunFault::Flush);
+                }
+                answer_lines(
+                    &mut text,
+                    strict,
+                    &chunk[..n],
+                    &mut part,
+                    &mut counts,
+                    writer,
+                    file,
+                    keeper,
+                    calls,
+                )?;
+            }
         }
     }
     Err(RunFault::Script(ScriptFault::ScriptTooLong))
@@ -134,6 +144,22 @@ pub fn read_answered<L: Ledger, R: CountedRead<L>, W: CountedWrite<L>>(
     ensures failed { TellsFailed calls.old (is_err result) false calls.new }
 {
     reader.read_on(calls, to)
+}
+
+// Whether the bytes that come next are a line that asks for a flush, where commits are kept and no transaction is open.
+fn asks_flush<T: Table, K: CommitKeeper<T>>(
+    keeper: &K,
+    file: &RecordFile<T>,
+    part: &PartLine,
+    bytes: &[u8],
+) -> bool
+    ensures asks { IsTrue result
+        → AsksFlush K.keeps (maps.len file.now.file.txs) part.now bytes.now }
+    ensures unasked { result ≡ false
+        → AsksFlush K.keeps (maps.len file.now.file.txs) part.now bytes.now → ⊥ }
+{
+    let idle = file.open_count() == 0;
+    idle && keeper.keeps() && part.is_new() && bytes == FLUSH
 }
 
 // Runs each line that ends in these bytes, which come after what was read before. What follows the last LF begins a

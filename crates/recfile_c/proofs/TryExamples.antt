@@ -1,6 +1,6 @@
 -- Tries to close a table of an example, and what is none.
 use Rattle.std.proofs.Common.{◌≡◌, ℕ, ◌≤◌, ◌++◌, ⊎_elim, List, [], ◌∷◌, length, Option, Some, None, zero, suc, refl, sym, ap, arith, length-append}
-use Rattle.page_store.specs.Journal.{Journal, noted}
+use Rattle.page_store.specs.Journal.{Journal, noted_steps}
 use Rattle.page_store.specs.declared.step.Step.{Step}
 use Rattle.page_store.specs.declared.step.Step.TheVariants.{SetPages, Write, Sync}
 use Rattle.page_store.specs.Fronts.{two_pages}
@@ -68,7 +68,7 @@ pub never_over_no_page_again : (n : ℕ) → IsTriedAgain n (changed_table []) (
 never_over_no_page_again = never_again (table_over [] []) (never_over_no_page [])
 
 -- a try takes no step away
-noted_longer : (j : Option Journal) (more : List Step) → length (steps_in j) ≤ length (steps_in (noted j more))
+noted_longer : (j : Option Journal) (more : List Step) → length (steps_in j) ≤ length (steps_in (noted_steps j more))
 noted_longer None more = omega arith
 noted_longer (Some j) more = let long = length-append j.steps more in omega arith
 
@@ -88,7 +88,7 @@ never_fewer n again = let e : 1 ≤ 0 = steps_stay n (changed_table made_longer)
 pub once_again : IsTriedAgain 1 (changed_table []) (changed_table made_longer)
 once_again =
     let t = changed_table made_longer in
-    let front : (front : List Step) × (rest : List Step) × (closing (changed_table []) ≡ front ++ rest) × (t.pages.journal ≡ noted (changed_table []).pages.journal front) =
+    let front : (front : List Step) × (rest : List Step) × (closing (changed_table []) ≡ front ++ rest) × (t.pages.journal ≡ noted_steps (changed_table []).pages.journal front) =
     (made_longer, mark_of t ∷ later_of t, refl, refl) in (
       t,
       record { tree = refl; contents = refl; steady = refl; steps = front; tries = tried_again (changed_table []) t refl front },

@@ -5,7 +5,7 @@ use Rattle.std.proofs.Math.Seq.{take-append-add, take-append_seam, take-length}
 use Rattle.std.proofs.lemmas.Bool.{cases_lt}
 use Rattle.rec_types.specs.LimitBounds.{Bounds}
 use Rattle.page_store.specs.Fronts.{tried}
-use Rattle.page_store.specs.Journal.{Journal, carried, noted, opened_before, untouched, NotesFront}
+use Rattle.page_store.specs.Journal.{Journal, carried, noted_steps, opened_before, untouched, NotesFront}
 use Rattle.page_store.specs.declared.step.Step.{Step}
 use Rattle.page_store.proofs.TryLemmas.{carried-append}
 use Rattle.btree_delete.specs.Closing.{closing, IsNewOrFile, IsEither}
@@ -85,17 +85,17 @@ tried_again old new same front opened ks has =
     ap (λ (steps : List Step). tried ks all ++ steps) (front_is all front.0 front.1 front.2)
     ∙ sym (tried_one ks k all)
     ∙ ap (tried (ks ++ k ∷ [])) (sym same) in
-    (k, front.3 ∙ ap (λ (j : Option Journal). noted j front.0) has ∙ ap (λ (steps : List Step). Some (record { opened = opened; steps = steps })) steps)
+    (k, front.3 ∙ ap (λ (j : Option Journal). noted_steps j front.0) has ∙ ap (λ (steps : List Step). Some (record { opened = opened; steps = steps })) steps)
 
 -- the journal after the last try
-pub last_try : (t : TableView) (j : JournalView) (opened : List (List ℕ)) (ks : List ℕ) → journal_of j ≡ noted t.pages.journal (closing t) → HasTried t opened ks
+pub last_try : (t : TableView) (j : JournalView) (opened : List (List ℕ)) (ks : List ℕ) → journal_of j ≡ noted_steps t.pages.journal (closing t) → HasTried t opened ks
     → (j.opened ≡ opened) × (j.steps ≡ tried ks (closing t) ++ closing t)
 last_try t j opened ks steps has =
-    let is = steps ∙ ap (λ (o : Option Journal). noted o (closing t)) has in
+    let is = steps ∙ ap (λ (o : Option Journal). noted_steps o (closing t)) has in
     (ap opened_in is, ap steps_in is)
 
 -- each front of all steps
-pub fronts_tried : (t : TableView) (j : JournalView) (ks : List ℕ) → journal_of j ≡ noted t.pages.journal (closing t) → HasTried t j.opened ks
+pub fronts_tried : (t : TableView) (j : JournalView) (ks : List ℕ) → journal_of j ≡ noted_steps t.pages.journal (closing t) → HasTried t j.opened ks
     → ((old : List (List ℕ)) (js : List ℕ) → IsNewOrFile old → IsEither old (carried old (closing t)) (carried old (tried js (closing t))))
     → ((old : List (List ℕ)) (js : List ℕ) → carried (carried old (tried js (closing t))) (closing t) ≡ carried old (closing t))
     → IsNewOrFile j.opened → (m : ℕ) → IsEither j.opened (pages_after j) (carried j.opened (take m j.steps))

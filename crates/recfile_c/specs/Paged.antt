@@ -4,7 +4,7 @@ use Rattle.std.specs.FinMap as maps
 use Rattle.std.specs.declared.boxed.Box.{Box}
 use Rattle.rec_types.specs.LimitBounds.{Bounds}
 use Rattle.page_store.specs.Fronts.{tried}
-use Rattle.page_store.specs.Journal.{carried, noted, untouched, NotesFront}
+use Rattle.page_store.specs.Journal.{carried, noted_steps, untouched, NotesFront}
 use Rattle.rec_types.specs.declared.limits.LimitFault.{LimitFault}
 use Rattle.btree_node.specs.Layout.{second_version}
 use Rattle.btree_delete.specs.declared.opening.open_fault.OpenFault.{OpenFault}
@@ -131,7 +131,7 @@ TakesImage None None = Unit {0}
 pub record Settles (t : TableView) (j : JournalView) : Type 0 where
   pub closed : IsTrue t.pages.steady → IsClosed second_version (pages_after j) 0 t.tree (table_contents t)
   pub idle : t.pages.changed ≡ false → pages_after j ≡ t.pages.stored
-  pub steps : journal_of j ≡ noted t.pages.journal (closing t)
+  pub steps : journal_of j ≡ noted_steps t.pages.journal (closing t)
   pub opened : (opened : List (List ℕ)) (ks : List ℕ) → HasTried t opened ks → j.opened ≡ opened
   pub fronts : (ks : List ℕ) → HasTried t j.opened ks → IsNewOrFile j.opened → (k : ℕ) → IsEither j.opened (pages_after j) (carried j.opened (take k j.steps))
 

@@ -6,7 +6,7 @@ ghost use Rattle.btree_delete.specs.Closing.{IsEither};
 ghost use Rattle.btree_delete.specs.TableView.{TableView, IsClosed, table_contents};
 ghost use Rattle.page_journal.specs.Carrying.{LeavesOf, WritesKept};
 ghost use Rattle.page_journal.specs.Crash.{Gathered};
-ghost use Rattle.page_journal.specs.Files.{Kept, restored};
+ghost use Rattle.page_journal.specs.Files.{SideFile, restored};
 ghost use Rattle.page_store.specs.Fronts.{two_pages, page_1_written};
 ghost use Rattle.page_store.specs.Journal.{carried};
 ghost use Rattle.page_store.specs.declared.step.Step.{Step};
@@ -42,7 +42,7 @@ pub fn pages_handed_in_are_put_back()
     ensures { (pages : List (List ℕ)) (limits : Bounds) (made now last : TableView) (n : ℕ)
         → (j : JournalView) → OpensPages pages limits made
         → origin_in (Paged now) ≡ origin_in (Paged made) → IsTriedAgain n now last → Settles last j
-        → (kept : Kept) (left : List (List ℕ)) → Gathered pages kept
+        → (kept : SideFile) (left : List (List ℕ)) → Gathered pages kept
         → All (WritesKept kept) j.steps → LeavesOf j.steps j.opened left
         → restored kept left ≡ record { pages = pages; tail = 0 } }
 {}

@@ -6,7 +6,7 @@ mod uninterrupted;
 ghost use Rattle.recfile.specs.Streams.{IsBlankFor};
 
 use crate::uninterrupted::Uninterrupted;
-use line_prompt::{Heard, Prompted, Watch, tell_end};
+use line_prompt::{ByLine, Heard, Prompted, Watch, tell_end};
 use recfile::{StreamCalls, SystemFiles, run_words, unread_words};
 use std::cell::RefCell;
 use std::io::{IsTerminal, Read, Write};
@@ -95,7 +95,10 @@ fn run(rt: &HostRuntime) -> io::Result<u8> {
     let typed = typed && is_shell;
     let watch = RefCell::new(Watch::new(alloc));
     let lines = Uninterrupted::new(rt.stdin());
-    let mut lines = Prompted::new(lines, rt.stderr(), &watch, typed);
+    let lines = Prompted::new(lines, rt.stderr(), &watch, typed);
+    // A flush leaves what follows its line unread.
+    let flushes = is_shell && words.contains(&"--durable");
+    let mut lines = ByLine::new(lines, flushes);
     let mut out = Heard::new(Uninterrupted::new(rt.stdout()), &watch, typed);
     let status = run_over(rt, &words, &mut lines, &mut out);
     if typed && WAS_ENDED.contains(&status) {

@@ -9,8 +9,8 @@ unfoldable pub filled_page : ℕ → List ℕ
 filled_page byte = replicate page_width byte
 
 -- two pages, with no side file
-abbrev pub two_pages : Files
-two_pages = record {
+abbrev pub two_filled_pages : Files
+two_filled_pages = record {
   main = record { pages = filled_page 1 ∷ filled_page 2 ∷ []; tail = 0 };
   fresh = nothing_kept 0;
   side = None;

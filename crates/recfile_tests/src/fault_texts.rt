@@ -237,12 +237,13 @@ const SCRIPT_FAULTS: [(ScriptFault, &str); 4] = [
     (ScriptFault::Memory { done: 1 }, "Memory 1"),
 ];
 
-const RUN_FAULTS: [(RunFault, &str); 2] = [
+const RUN_FAULTS: [(RunFault, &str); 3] = [
     (
         RunFault::Script(ScriptFault::WriteFault { done: 1 }),
         "WriteFault 1",
     ),
     (RunFault::Refused { line: 2 }, "Refused 2"),
+    (RunFault::Flush, "Flush"),
 ];
 
 const END_FAULTS: [(EndFault, &str); 3] = [

@@ -18,13 +18,13 @@ struct OneFile;
 
 impl PageFiles for OneFile {
     ghost use Rattle.std.specs.Prelude.{◌≡◌};
-    ghost use Rattle.recfile_tests.specs.TwoPages.{two_pages};
+    ghost use Rattle.recfile_tests.specs.TwoPages.{two_filled_pages};
 
     type Device = MemDisk;
 
     type Pages = MemStore;
 
-    ghost at = { λ _ _ files. files ≡ two_pages };
+    ghost at = { λ _ _ files. files ≡ two_filled_pages };
 
     fn open(&self, alloc: Global, _path: &str) -> Result<MemDisk, FileFault> {
         match MemDisk::new(alloc, &[filled(1), filled(2)], 0) {

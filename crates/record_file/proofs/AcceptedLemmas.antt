@@ -7,7 +7,7 @@ use Rattle.rec_types.specs.History.{Change}
 use Rattle.rec_types.specs.declared.transaction.TxId.{TxId}
 use Rattle.rec_types.proofs.ContentsLemmas.{same_key-sym, get-write_to-there}
 use Rattle.rec_types.proofs.Sizes.{IsWithin, has-set_to, len-within, len_new}
-use Rattle.tx_log.specs.Log.{key_of, new_of, change_record}
+use Rattle.tx_log.specs.Log.{key_of_record, new_of, change_record}
 use Rattle.tx_log.specs.Owners.{claims, charged}
 use Rattle.tx_log.specs.declared.log_record.LogRecord.{LogRecord}
 use Rattle.record_file.specs.Abstract.{File, Told, AllTold, written, open_of, records_of, charged_of, is_full, with_change}
@@ -24,7 +24,7 @@ unrefused P (Some refusal) is = absurd (cc is.0)
 
 told_last : (rs : List LogRecord) (r : LogRecord) (m : Contents) → AllTold m (rs ++ r ∷ []) → Told (written m rs) r
 told_last [] r m told = told.0
-told_last (s ∷ rs) r m told = told_last rs r (write_to m (key_of s) (new_of s)) told.1
+told_last (s ∷ rs) r m told = told_last rs r (write_to m (key_of_record s) (new_of s)) told.1
 
 stood_told : (lsn prev : ℕ) (t : TxId) (x : List ℕ) (before : Option (List ℕ)) (w : Option (Option (List ℕ))) (now : Contents) → Told now (change_record lsn prev t x before w) → before ≡ get now x
 stood_told lsn prev t x before None now told = told

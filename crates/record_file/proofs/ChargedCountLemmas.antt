@@ -9,7 +9,7 @@ use Rattle.rec_types.specs.History.{replay}
 use Rattle.rec_types.specs.Kept.{Kept, history_of, BeforesFit, OnlyOf, IsOwned}
 use Rattle.rec_types.proofs.ContentsLemmas.{get-write_to-there, same_key-is, same_key-sym}
 use Rattle.rec_types.proofs.Sizes.{has-set_to, len-parts}
-use Rattle.tx_log.specs.Owners.{owner_of, charged, says, lack, Standing, nothing, standing, stands_by, absent}
+use Rattle.tx_log.specs.Owners.{owner_of, charged, says, lack, Standing, nothing, standing, stands_by, keys_absent}
 use Rattle.record_file.proofs.ChargedLemmas.{claimed, has-charged}
 
 inverse : (w : Option (List ℕ)) → is_some (lack w) ≡ not (is_some w)
@@ -97,8 +97,8 @@ key_absent is_open (c ∷ cs) s m q owned fit none = at c.live (is_open c.tx) (s
         ∙ (λ i. cond (sym (owner_is false opened same live is_opened is_same) i) (not (has (sym (written c cs m false live) i) q)) (has s.out q))
 
 -- the charged keys are those with a record, and the absent ones
-pub len-charged : (is_open : ℕ → Bool) (cs : List Kept) (b : Contents) → IsOwned is_open cs → BeforesFit b cs → len (charged is_open (history_of cs) (replay b (history_of cs))) ≡ len (replay b (history_of cs)) + len (absent is_open cs)
-len-charged is_open cs b owned fit = len-parts now (absent is_open cs) (charged is_open (history_of cs) now) record {
+pub len-charged : (is_open : ℕ → Bool) (cs : List Kept) (b : Contents) → IsOwned is_open cs → BeforesFit b cs → len (charged is_open (history_of cs) (replay b (history_of cs))) ≡ len (replay b (history_of cs)) + len (keys_absent is_open cs)
+len-charged is_open cs b owned fit = len-parts now (keys_absent is_open cs) (charged is_open (history_of cs) now) record {
   whole = λ q. has-charged is_open (history_of cs) now q ∙ joined (claimed is_open (history_of cs) q) (has now q) ∙ ap (λ b. has now q || b) (sym (absent_is q));
   apart = λ q in_now in_absent. apart (claimed is_open (history_of cs) q) (has now q) in_now (sym (absent_is q) ∙ in_absent);
 }
@@ -106,7 +106,7 @@ len-charged is_open cs b owned fit = len-parts now (absent is_open cs) (charged 
     now : Contents
     now = replay b (history_of cs)
 
-    absent_is : (q : List ℕ) → has (absent is_open cs) q ≡ cond (claimed is_open (history_of cs) q) (not (has now q)) false
+    absent_is : (q : List ℕ) → has (keys_absent is_open cs) q ≡ cond (claimed is_open (history_of cs) q) (not (has now q)) false
     absent_is q = key_absent is_open cs nothing b q owned fit (ap is_some (get-empty (slice_cmp nat_cmp) q)) ∙ ap (λ w. cond (claimed is_open (history_of cs) q) (not (has now q)) (is_some w)) (get-empty (slice_cmp nat_cmp) q)
 
     joined : (c h : Bool) → c || h ≡ h || cond c (not h) false

@@ -3,7 +3,7 @@ use Rattle.std.proofs.Common.{◌≡◌, ℕ, ◌+◌, zero, suc, Bool, true, fa
 use Rattle.std.proofs.lemmas.List.{append-nil, append_assoc}
 use Rattle.rec_types.specs.History.{Change}
 use Rattle.rec_types.specs.Kept.{change_of}
-use Rattle.tx_log.specs.Log.{is_change}
+use Rattle.tx_log.specs.Log.{tells_change}
 use Rattle.tx_log.specs.LogLaws.{undoes, change_told}
 use Rattle.tx_log.specs.declared.log_record.LogRecord.{LogRecord}
 use Rattle.record_file.specs.Resumed.{TakesWhole, CompensatesTake}
@@ -50,9 +50,9 @@ get-map f (r ∷ rs) zero u is = let same : r ≡ u = cc in ap (λ (x : LogRecor
 get-map f (r ∷ rs) (suc i) u is = get-map f rs i u is
 
 -- the change of an update of an exact file
-told_live : (s : Seen) → IsExactSeen s → (i : ℕ) (u : LogRecord) (c : Change) → slice_get (filter is_change s.log) i ≡ Some u → slice_get s.file.history i ≡ Some c → c.live ≡ (change_told s.log u).live
+told_live : (s : Seen) → IsExactSeen s → (i : ℕ) (u : LogRecord) (c : Change) → slice_get (filter tells_change s.log) i ≡ Some u → slice_get s.file.history i ≡ Some c → c.live ≡ (change_told s.log u).live
 told_live s exact i u c at is =
-    let there : slice_get s.file.history i ≡ Some (change_of (change_told s.log u)) = ap (λ (h : List Change). slice_get h i) exact.changes ∙ get-map (λ u. change_of (change_told s.log u)) (filter is_change s.log) i u at in
+    let there : slice_get s.file.history i ≡ Some (change_of (change_told s.log u)) = ap (λ (h : List Change). slice_get h i) exact.changes ∙ get-map (λ u. change_of (change_told s.log u)) (filter tells_change s.log) i u at in
     let both : Some c ≡ Some (change_of (change_told s.log u)) = sym is ∙ there in
     let same : c ≡ change_of (change_told s.log u) = cc in
     ap (λ (c : Change). c.live) same
@@ -69,9 +69,9 @@ compensates old new more longer was is = (
   more,
   longer,
   λ i u past now at before after.
-      let there = stands is_change old.log i u at in
+      let there = stands tells_change old.log i u at in
       let grown : new.log ≡ there.0 ++ u ∷ (there.1 ++ more) = longer ∙ ap (λ (rs : List LogRecord). rs ++ more) there.2 ∙ append_assoc there.0 (u ∷ there.1) more in
-      let at_new : slice_get (filter is_change new.log) i ≡ Some u = ap (λ (rs : List LogRecord). slice_get (filter is_change rs) i) longer ∙ ap (λ (rs : List LogRecord). slice_get rs i) (filter-append is_change old.log more) ∙ get-append (filter is_change old.log) (filter is_change more) i u at in
+      let at_new : slice_get (filter tells_change new.log) i ≡ Some u = ap (λ (rs : List LogRecord). slice_get (filter tells_change rs) i) longer ∙ ap (λ (rs : List LogRecord). slice_get rs i) (filter-append tells_change old.log more) ∙ get-append (filter tells_change old.log) (filter tells_change more) i u at in
       counts past.live now.live (length (filter (undoes u) old.log)) (length (filter (undoes u) more)) (length (filter (undoes u) new.log))
       (ap (λ (rs : List LogRecord). length (filter (undoes u) rs)) longer ∙ ap length (filter-append (undoes u) old.log more) ∙ length-both (filter (undoes u) old.log) (filter (undoes u) more))
       (was.compensated there.0 there.1 u there.2 there.3 ∙ ap (λ b. if b then 0 else 1) (sym (told_live old was i u past at before)))

@@ -5,7 +5,7 @@ use Rattle.std.specs.List.{list_any}
 use Rattle.rec_types.specs.Contents.{Contents}
 use Rattle.rec_types.specs.History.{Change}
 use Rattle.rec_types.specs.Kept.{change_of, history_of}
-use Rattle.tx_log.specs.Log.{is_change}
+use Rattle.tx_log.specs.Log.{tells_change}
 use Rattle.tx_log.specs.LogLaws.{undoes, change_told}
 use Rattle.tx_log.specs.Owners.{claims, owner_of}
 use Rattle.tx_log.specs.declared.log_record.LogRecord.{LogRecord}
@@ -50,7 +50,7 @@ pub kept_exact : (sound : Bool) (now : Contents) (limit : ℕ) (f : File) (log :
 kept_exact sound now limit f log kept = record {
   records = kept.replayed;
   owners = λ t x. (owner_owns (open_of f) f.history t x, kept.owned t x);
-  changes = sym kept.chained.2 ∙ ap history_of kept.chained.1.told ∙ told (filter is_change log);
+  changes = sym kept.chained.2 ∙ ap history_of kept.chained.1.told ∙ told (filter tells_change log);
   compensated = λ older newer u is update. one_or_none (undoes u) log (kept.chained.1.once older newer u is update);
 }
   where

@@ -11,7 +11,7 @@ use Rattle.rec_types.proofs.HistoryLemmas.{history-undone}
 use Rattle.rec_types.proofs.Sizes.{has-set_to, IsWithin, len-within, room_for, len_new, len_known}
 use Rattle.tx_log.specs.LogState.{LogState, IsLog, history_in, open_in}
 use Rattle.tx_log.specs.declared.log_record.LogRecord.{LogRecord}
-use Rattle.tx_log.specs.Owners.{charged, absent}
+use Rattle.tx_log.specs.Owners.{charged, keys_absent}
 use Rattle.record_file.specs.Abstract.{Fits, file_of, with_change, charged_of}
 use Rattle.record_file.proofs.ChargedCountLemmas.{len-charged}
 use Rattle.record_file.proofs.ChargedLemmas.{claimed, has-charged, claimed-push, claimed-undone, claimed-newest, claimed-within}
@@ -177,17 +177,17 @@ charged_within is_open also_open n cs m limit within begun size = omega (
 -- Taking back is never refused for room: the key is owned, so it is charged, and if it has no record there are
 -- fewer records than charged keys.
 pub undo_has_room : (is_open : ℕ → Bool) (cs : List Kept) (m : Contents) (limit t : ℕ) (u : Kept) → is_open t ≡ true → newest_live t cs ≡ Some u → len (charged is_open (history_of cs) m) ≤ limit → get m u.key ≡ None → limit ≤ len m → ⊥
-undo_has_room is_open cs m limit t u open_t newest within absent full =
+undo_has_room is_open cs m limit t u open_t newest within keys_absent full =
     let owns : has (charged is_open (history_of cs) m) u.key ≡ true = has-charged is_open (history_of cs) m u.key ∙ or_first (claimed is_open (history_of cs) u.key) (has m u.key) (claimed-newest is_open t cs u open_t newest) in
-    let fewer = room_for m (charged is_open (history_of cs) m) u.key (records_within is_open (history_of cs) m) owns (ap is_some absent) in
+    let fewer = room_for m (charged is_open (history_of cs) m) u.key (records_within is_open (history_of cs) m) owns (ap is_some keys_absent) in
     absurd (omega (arith, fewer))
 
 -- Nor is a put at a key that isn't full.
 pub put_has_room : (is_open : ℕ → Bool) (cs : List Kept) (m : Contents) (limit : ℕ) (x : List ℕ) → len (charged is_open (history_of cs) m) ≤ limit → (has (charged is_open (history_of cs) m) x ≡ false → len (charged is_open (history_of cs) m) < limit) → get m x ≡ None → limit ≤ len m → ⊥
-put_has_room is_open cs m limit x within room absent full = at (has (charged is_open (history_of cs) m) x) refl
+put_has_room is_open cs m limit x within room keys_absent full = at (has (charged is_open (history_of cs) m) x) refl
   where
     at : (there : Bool) → has (charged is_open (history_of cs) m) x ≡ there → ⊥
-    at true is = absurd (omega (arith, room_for m (charged is_open (history_of cs) m) x (records_within is_open (history_of cs) m) is (ap is_some absent)))
+    at true is = absurd (omega (arith, room_for m (charged is_open (history_of cs) m) x (records_within is_open (history_of cs) m) is (ap is_some keys_absent)))
     at false is = absurd (omega (arith, len-within m (charged is_open (history_of cs) m) (records_within is_open (history_of cs) m), room is))
 
 -- the log is full where it can't accept a change
@@ -200,7 +200,7 @@ full_is false used limit means = at (nat_lt limit (used + 2)) refl
     at false is = absurd (cc (means.1 (grind (arith, nat_tests))))
 
 -- the records and the absent keys are the charged ones
-pub charged_count : (log : LogState) (m : Contents) (n a : ℕ) → Fits log.changes m → IsLog log → n ≡ len m → a ≡ len (absent (open_in log) log.changes) → n + a ≡ len (charged_of (file_of log m))
+pub charged_count : (log : LogState) (m : Contents) (n a : ℕ) → Fits log.changes m → IsLog log → n ≡ len m → a ≡ len (keys_absent (open_in log) log.changes) → n + a ≡ len (charged_of (file_of log m))
 charged_count log m n a fits kept counted gone =
     let all = len-charged (open_in log) log.changes (opening_of log.changes m) kept.owned fits.befores in
     omega (arith, all, counted, gone, ap len fits.replayed)

@@ -8,14 +8,14 @@ use Rattle.rec_types.specs.History.{Change, log_len, live_from, undo_last}
 use Rattle.rec_types.proofs.HistoryLemmas.{newest_from-some, newest_from-live, history-undone}
 use Rattle.std.proofs.lemmas.Bool.Decides.{nat_tests}
 use Rattle.rec_types.specs.Kept.{Kept, back_of, newest_live, newest_from, undone, history_of, opening_of}
-use Rattle.tx_log.specs.Transactions.{Transactions, Tx, is_open, fresh, left_in, left_of}
+use Rattle.tx_log.specs.Transactions.{Transactions, Tx, is_open, fresh, left_in, left_to_undo}
 use Rattle.tx_log.specs.declared.phase.Rollback.{Rollback}
 use Rattle.tx_log.specs.declared.phase.BeginFault.{BeginFault}
 use Rattle.rec_types.specs.declared.transaction.TxId.{TxId}
 use Rattle.tx_log.specs.Owners.{charged}
 use Rattle.tx_log.specs.LogState.{LogState, IsLog, new_log, open_in, history_in, phase_in, phase_of, update_in, tx_in, undo_in, undo_of, undo_from, step_of, undo_step, compensations_in, compensations_of, prev_in, finished, finished_by, active_with}
 use Rattle.tx_log.specs.declared.phase.Phase.{Phase}
-use Rattle.tx_log.specs.Log.{key_of, new_of, change_record, back_record, last_of, record_at}
+use Rattle.tx_log.specs.Log.{key_of_record, new_of, change_record, back_record, last_of, record_at}
 use Rattle.tx_log.specs.declared.phase.UndoStep.{UndoStep}
 use Rattle.tx_log.specs.declared.log_record.LogRecord.{LogRecord}
 use Rattle.record_file.specs.Abstract.{EndsAtBeginning, AbortsWhole, File, Fits, IsRecordFile, written, Told, AllTold, file_of, with_change}
@@ -66,16 +66,16 @@ accepted s t x before w = record s { records = s.records ++ update_in s t x befo
 abbrev pub compensated : LogState → TxId → LogState
 compensated s t = record s { records = s.records ++ compensations_in s t; changes = undone t.0 s.changes; room = None }
 
-written-push : (rs : List LogRecord) (r : LogRecord) (m : Contents) → written m (rs ++ r ∷ []) ≡ write_to (written m rs) (key_of r) (new_of r)
+written-push : (rs : List LogRecord) (r : LogRecord) (m : Contents) → written m (rs ++ r ∷ []) ≡ write_to (written m rs) (key_of_record r) (new_of r)
 written-push [] r m = refl
-written-push (s ∷ rs) r m = written-push rs r (write_to m (key_of s) (new_of s))
+written-push (s ∷ rs) r m = written-push rs r (write_to m (key_of_record s) (new_of s))
 
 all_told_push : (rs : List LogRecord) (r : LogRecord) (m : Contents) → AllTold m rs → Told (written m rs) r → AllTold m (rs ++ r ∷ [])
 all_told_push [] r m told tells = (tells, tt)
-all_told_push (s ∷ rs) r m told tells = (told.0, all_told_push rs r (write_to m (key_of s) (new_of s)) told.1 tells)
+all_told_push (s ∷ rs) r m told tells = (told.0, all_told_push rs r (write_to m (key_of_record s) (new_of s)) told.1 tells)
 
 -- one more record, which tells what stands at its key
-pub told_push : (rs : List LogRecord) (r : LogRecord) (b c now : Contents) (x : List ℕ) (w : Option (Option (List ℕ))) → b ≡ c → key_of r ≡ x → new_of r ≡ w → Told now r → (now ≡ written b rs) × AllTold b rs → (write_to now x w ≡ written c (rs ++ r ∷ [])) × AllTold c (rs ++ r ∷ [])
+pub told_push : (rs : List LogRecord) (r : LogRecord) (b c now : Contents) (x : List ℕ) (w : Option (Option (List ℕ))) → b ≡ c → key_of_record r ≡ x → new_of r ≡ w → Told now r → (now ≡ written b rs) × AllTold b rs → (write_to now x w ≡ written c (rs ++ r ∷ [])) × AllTold c (rs ++ r ∷ [])
 told_push rs r b c now x w same key new tells told =
     subst (λ (n : Contents). (write_to now x w ≡ written n (rs ++ r ∷ [])) × AllTold n (rs ++ r ∷ [])) same (
       (λ i. write_to (told.0 i) (sym key i) (sym new i)) ∙ sym (written-push rs r b),
@@ -83,7 +83,7 @@ told_push rs r b c now x w same key new tells told =
     )
 
 -- the record of a change tells of it
-pub key_made : (lsn prev : ℕ) (t : TxId) (x : List ℕ) (before : Option (List ℕ)) (w : Option (Option (List ℕ))) → key_of (change_record lsn prev t x before w) ≡ x
+pub key_made : (lsn prev : ℕ) (t : TxId) (x : List ℕ) (before : Option (List ℕ)) (w : Option (Option (List ℕ))) → key_of_record (change_record lsn prev t x before w) ≡ x
 key_made lsn prev t x before None = refl
 key_made lsn prev t x before (Some w) = refl
 
@@ -96,7 +96,7 @@ told_made lsn prev t x before None now is = is
 told_made lsn prev t x before (Some w) now is = is
 
 -- and that of one that is taken back
-key_back : (lsn prev : ℕ) (t : TxId) (x : List ℕ) (w : Option (Option (List ℕ))) (next : ℕ) → key_of (back_record lsn prev t x w next) ≡ x
+key_back : (lsn prev : ℕ) (t : TxId) (x : List ℕ) (w : Option (Option (List ℕ))) (next : ℕ) → key_of_record (back_record lsn prev t x w next) ≡ x
 key_back lsn prev t x None next = refl
 key_back lsn prev t x (Some w) next = refl
 
@@ -109,12 +109,12 @@ told_back lsn prev t x None next now = tt
 told_back lsn prev t x (Some w) next now = tt
 
 -- what the record of a change wrote
-pub change_written : (m : Contents) (lsn prev : ℕ) (t : TxId) (x : List ℕ) (before : Option (List ℕ)) (w : Option (Option (List ℕ))) → write_to m x w ≡ write_to m (key_of (change_record lsn prev t x before w)) (new_of (change_record lsn prev t x before w))
+pub change_written : (m : Contents) (lsn prev : ℕ) (t : TxId) (x : List ℕ) (before : Option (List ℕ)) (w : Option (Option (List ℕ))) → write_to m x w ≡ write_to m (key_of_record (change_record lsn prev t x before w)) (new_of (change_record lsn prev t x before w))
 change_written m lsn prev t x before None = refl
 change_written m lsn prev t x before (Some w) = refl
 
 -- what the record of a change that was taken back wrote
-pub back_written : (m : Contents) (lsn prev : ℕ) (t : TxId) (x : List ℕ) (w : Option (Option (List ℕ))) (next : ℕ) → write_to m (key_of (back_record lsn prev t x w next)) (new_of (back_record lsn prev t x w next)) ≡ write_to m x w
+pub back_written : (m : Contents) (lsn prev : ℕ) (t : TxId) (x : List ℕ) (w : Option (Option (List ℕ))) (next : ℕ) → write_to m (key_of_record (back_record lsn prev t x w next)) (new_of (back_record lsn prev t x w next)) ≡ write_to m x w
 back_written m lsn prev t x None next = refl
 back_written m lsn prev t x (Some w) next = refl
 
@@ -153,7 +153,7 @@ undo_there cs t (Some tx) some = at tx.rollback some
         nat_lt_of a b lt = grind (arith, nat_tests)
     found p some (Some u) is = (u, is, newest_from-live cs t p u is)
 
-    at : (r : Option Rollback) → 0 < left_of (history_of cs) t r → (u : Kept) × (undo_from cs t r ≡ Some u) × (newest_live t cs ≡ Some u) × (is_some (Some tx) ≡ true)
+    at : (r : Option Rollback) → 0 < left_to_undo (history_of cs) t r → (u : Kept) × (undo_from cs t r ≡ Some u) × (newest_live t cs ≡ Some u) × (is_some (Some tx) ≡ true)
     at None some = absurd (omega arith)
     at (Some r) some = let u = found r.to some (newest_from cs t r.to) refl in (u.0, u.1, u.2, refl)
 
@@ -193,7 +193,7 @@ module _ (sound : Bool) (now : Contents) (limit : ℕ) (log : LogState) (old : I
   file_room room = record { limited = old.limited; whole = old.whole; fits = old.fits; told = old.told; within = old.within }
 
   -- one more live change, put into the table
-  pub file_put : (room : Option (List ℕ)) (r : LogRecord) (lsn t : ℕ) (x : List ℕ) (before : Option (List ℕ)) (w : Option (Option (List ℕ))) → key_of r ≡ x → new_of r ≡ w → (IsTrue sound → Told now r) → (IsTrue sound → before ≡ get now x) → (IsTrue sound → has (charged (open_in log) (history_in log) now) x ≡ false → len (charged (open_in log) (history_in log) now) < log.limits.records)
+  pub file_put : (room : Option (List ℕ)) (r : LogRecord) (lsn t : ℕ) (x : List ℕ) (before : Option (List ℕ)) (w : Option (Option (List ℕ))) → key_of_record r ≡ x → new_of r ≡ w → (IsTrue sound → Told now r) → (IsTrue sound → before ≡ get now x) → (IsTrue sound → has (charged (open_in log) (history_in log) now) x ≡ false → len (charged (open_in log) (history_in log) now) < log.limits.records)
       → IsRecordFile sound (write_to now x w) limit (record log { records = log.records ++ r ∷ []; changes = log.changes ++ change lsn t x before w ∷ []; room = room })
   file_put room r lsn t x before w key new tells stood room_for = record {
     limited = old.limited;
@@ -204,7 +204,7 @@ module _ (sound : Bool) (now : Contents) (limit : ℕ) (log : LogState) (old : I
   }
 
   -- the newest live change of an open transaction taken back, in the table too
-  pub file_undo : (room : Option (List ℕ)) (r : LogRecord) (t : ℕ) (u : Kept) → key_of r ≡ u.key → new_of r ≡ back_of u → Told now r → IsTrue (open_in log t) → newest_live t log.changes ≡ Some u → IsRecordFile sound (write_to now u.key (back_of u)) limit (record log { records = log.records ++ r ∷ []; changes = undone t log.changes; room = room })
+  pub file_undo : (room : Option (List ℕ)) (r : LogRecord) (t : ℕ) (u : Kept) → key_of_record r ≡ u.key → new_of r ≡ back_of u → Told now r → IsTrue (open_in log t) → newest_live t log.changes ≡ Some u → IsRecordFile sound (write_to now u.key (back_of u)) limit (record log { records = log.records ++ r ∷ []; changes = undone t log.changes; room = room })
   file_undo room r t u key new tells open_t newest = record {
     limited = old.limited;
     whole = old.whole;

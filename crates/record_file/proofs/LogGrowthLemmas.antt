@@ -2,13 +2,13 @@
 use Rattle.std.proofs.Common.{◌≡◌, Bool, List, [], ◌∷◌, ◌++◌, refl, sym, ap, ◌∙◌, IsTrue}
 use Rattle.std.proofs.lemmas.List.{append-nil, append_assoc}
 use Rattle.rec_types.specs.Contents.{Contents, write_to}
-use Rattle.tx_log.specs.Log.{key_of, new_of}
+use Rattle.tx_log.specs.Log.{key_of_record, new_of}
 use Rattle.tx_log.specs.declared.log_record.LogRecord.{LogRecord}
 use Rattle.record_file.specs.Abstract.{Tells, written}
 
 written-append : (rs more : List LogRecord) (m : Contents) → written m (rs ++ more) ≡ written (written m rs) more
 written-append [] more m = refl
-written-append (r ∷ rs) more m = written-append rs more (write_to m (key_of r) (new_of r))
+written-append (r ∷ rs) more m = written-append rs more (write_to m (key_of_record r) (new_of r))
 
 nothing_before : (rs more : List LogRecord) → rs ++ more ≡ [] → rs ≡ []
 nothing_before [] more none = refl
@@ -26,7 +26,7 @@ pub tells_none : (sound : Bool) (m n : Contents) (old new : List LogRecord) → 
 tells_none sound m n old new same is = ([], is ∙ sym (append-nil old), λ _. same, λ _. same)
 
 -- one record was written
-pub tells_one : (sound : Bool) (m n : Contents) (old mid new : List LogRecord) (r : LogRecord) → mid ≡ old → new ≡ mid ++ r ∷ [] → (IsTrue sound → n ≡ write_to m (key_of r) (new_of r)) → Tells sound m old n new
+pub tells_one : (sound : Bool) (m n : Contents) (old mid new : List LogRecord) (r : LogRecord) → mid ≡ old → new ≡ mid ++ r ∷ [] → (IsTrue sound → n ≡ write_to m (key_of_record r) (new_of r)) → Tells sound m old n new
 tells_one sound m n old mid new r is grown put =
     (r ∷ [], grown ∙ ap (λ rs. rs ++ r ∷ []) is, put, some_record r [] (n ≡ m))
 

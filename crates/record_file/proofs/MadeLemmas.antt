@@ -14,7 +14,7 @@ use Rattle.record_file.specs.Outside.{by_device, by_memory, named_by, NeverDamag
 use Rattle.record_file.specs.Refusals.{put_refusal, claim_refusal, remove_refusal, get_refusal, rollback_refusal, abort_refusal, resume_refusal, entries_refusal, refusal_by, cause_by, cause_in_refusal, by_file}
 use Rattle.record_file.specs.Runs.{Called, Answers, SparesFile, Made, cause_in, seen, Begin, Put, Claim, Remove, Get, Savepoint, Release, RollbackTo, Abort, Resume, Commit, Entries, KeysOf, StatusOf, Charged, Begun, LogLen, LogUse, RecordAt}
 use Rattle.record_file.specs.Steps.{rose, key_refusal, tx_refusal, returning_refusal, resuming_refusal, Accepts, key_change, BeginStep, PutStep, ClaimStep, RemoveStep, GetStep, SavepointStep, ReleaseStep, CommitStep, RollsBackTo, Aborts, Resumes, EntriesStep, TellOwners, KeysOfStep, RefusedFor, status_of, listed}
-use Rattle.record_file.specs.TableCalls.{ChangesTable, KeepsTable, KeepsLog}
+use Rattle.record_file.specs.TableCalls.{ChangesTable, KeepsTable, LeavesLog}
 use Rattle.record_file.specs.declared.fault.PutFault.{PutFault}
 use Rattle.record_file.specs.declared.fault.ClaimFault.{ClaimFault}
 use Rattle.record_file.specs.declared.fault.RemoveFault.{RemoveFault}
@@ -202,7 +202,7 @@ module _ {T : Type 0} (t : Ghosts T) (old new : OpenFile T) where
       leaves_made (Entries (Err fault)) memory.0 table memory.1 damaged ((refl, memory.2), record { owners = tt; step = step; same = table.same; damages = table.damages; asks = asks }) tt
 
   -- a call that asks the table nothing
-  quiet_made : (called : Called) → cause_in called ≡ None → KeepsTable old new → KeepsLog old new → Answers (seen t old) called (by_device (cause_in called)) false (seen t new) → SparesFile old called new → Made t old called new
+  quiet_made : (called : Called) → cause_in called ≡ None → KeepsTable old new → LeavesLog old new → Answers (seen t old) called (by_device (cause_in called)) false (seen t new) → SparesFile old called new → Made t old called new
   quiet_made called no_cause table log answer spares = record {
     refused = false;
     happens = record {
@@ -219,16 +219,16 @@ module _ {T : Type 0} (t : Ghosts T) (old new : OpenFile T) where
     spares = spares;
   }
 
-  pub begin_made : (answer : Result TxId BeginFault) → BeginStep old.file answer new.file → KeepsTable old new → KeepsLog old new → Made t old (Begin answer) new
+  pub begin_made : (answer : Result TxId BeginFault) → BeginStep old.file answer new.file → KeepsTable old new → LeavesLog old new → Made t old (Begin answer) new
   begin_made answer step table log = quiet_made (Begin answer) refl table log ((refl, refl, same_but_file t old new table log false), step) (table, log)
 
-  pub savepoint_made : (tx : TxId) (answer : Result ℕ SavepointFault) → SavepointStep old.file tx.0 answer new.file → KeepsTable old new → KeepsLog old new → Made t old (Savepoint tx answer) new
+  pub savepoint_made : (tx : TxId) (answer : Result ℕ SavepointFault) → SavepointStep old.file tx.0 answer new.file → KeepsTable old new → LeavesLog old new → Made t old (Savepoint tx answer) new
   savepoint_made tx answer step table log = quiet_made (Savepoint tx answer) refl table log ((refl, refl, same_but_file t old new table log false), step) (table, log)
 
-  pub release_made : (tx : TxId) (n : ℕ) (answer : Result (Unit {0}) ReleaseFault) → ReleaseStep old.file tx.0 n answer new.file → KeepsTable old new → KeepsLog old new → Made t old (Release tx n answer) new
+  pub release_made : (tx : TxId) (n : ℕ) (answer : Result (Unit {0}) ReleaseFault) → ReleaseStep old.file tx.0 n answer new.file → KeepsTable old new → LeavesLog old new → Made t old (Release tx n answer) new
   release_made tx n answer step table log = quiet_made (Release tx n answer) refl table log ((refl, refl, same_but_file t old new table log false), step) (table, log)
 
-  pub commit_made : (tx : TxId) (answer : Result (Unit {0}) CommitFault) → CommitStep old.file tx.0 answer new.file → KeepsTable old new → KeepsLog old new → Made t old (Commit tx answer) new
+  pub commit_made : (tx : TxId) (answer : Result (Unit {0}) CommitFault) → CommitStep old.file tx.0 answer new.file → KeepsTable old new → LeavesLog old new → Made t old (Commit tx answer) new
   commit_made tx answer step table log = quiet_made (Commit tx answer) refl table log ((refl, refl, keeping (seen t old) (seen t new) (same_but_file t old new table log false)), step) (table, log)
 
 -- a look

@@ -6,7 +6,7 @@ use Rattle.std.specs.FinMap as maps
 use Rattle.std.specs.FinMap.{get}
 use Rattle.rec_types.specs.History.{Change, live_from, take_back, take_newest}
 use Rattle.tx_log.specs.LogState.{active_with, phase_of, rolling_to, finished, finished_by}
-use Rattle.tx_log.specs.Transactions.{Transactions, Tx, fresh, place_in}
+use Rattle.tx_log.specs.Transactions.{Transactions, Tx, fresh, place_of_savepoint}
 use Rattle.tx_log.specs.declared.phase.BeginFault.TheVariants as begin_faults
 use Rattle.tx_log.specs.declared.phase.Phase.TheVariants as phases
 use Rattle.tx_log.specs.declared.phase.Rollback.{Rollback}
@@ -162,7 +162,7 @@ module _ (t p : ℕ) where
   stopped : (old new : Seen) (called : Called) (failed refused : Bool) → StopsFirst old.file t p called → Answers old called failed refused new → Passes old.file new.file
   stopped old new (RollbackTo q n (Err (rollback_faults.Stopped undone left cause))) failed refused first step =
       let becomes = step.1.rolled.1.2 in
-      let place : p ≡ place_in (places_at old.file q.0) n = first.1 ∙ ap (λ k. place_in (places_at old.file k) n) (sym first.0) in
+      let place : p ≡ place_of_savepoint (places_at old.file q.0) n = first.1 ∙ ap (λ k. place_of_savepoint (places_at old.file k) n) (sym first.0) in
       record {
         under = record {
           ends = false;

@@ -6,7 +6,7 @@ use Rattle.rec_types.specs.Contents.{Contents}
 use Rattle.rec_types.specs.Table.{counted, greatest_count}
 use Rattle.rec_types.specs.History.{Change, live_from, take_newest, take_back, undo_last}
 use Rattle.rec_types.proofs.HistoryLemmas.{live_from-take_newest, take_newest-none, take_newest-all, take_newest-more}
-use Rattle.tx_log.specs.Transactions.{Transactions, Tx, left_in, left_of, place_in, depth_of}
+use Rattle.tx_log.specs.Transactions.{Transactions, Tx, left_in, left_to_undo, place_of_savepoint, depth_of}
 use Rattle.tx_log.specs.declared.phase.Rollback.{Rollback}
 use Rattle.tx_log.specs.LogState.{IsRolling, phase_of, finished, rolling_to, active_with}
 use Rattle.tx_log.specs.declared.phase.Phase.TheVariants as phases
@@ -29,7 +29,7 @@ pub left-rolling : (h : List Change) (t : ℕ) (o : Option Tx) → IsRolling (op
 left-rolling h t None rolling = absurd rolling
 left-rolling h t (Some tx) rolling = at tx.rollback rolling
   where
-    at : (r : Option Rollback) → IsRolling (option_map phase_of (Some (record { rollback = r; places = tx.places }))) → left_of h t r ≡ live_from h t (rolling_place (Some (record { rollback = r; places = tx.places })))
+    at : (r : Option Rollback) → IsRolling (option_map phase_of (Some (record { rollback = r; places = tx.places }))) → left_to_undo h t r ≡ live_from h t (rolling_place (Some (record { rollback = r; places = tx.places })))
     at None rolling = absurd rolling
     at (Some r) rolling = refl
 
@@ -109,21 +109,21 @@ rollback_starts f t n active le = ap (active_refusal _) active ∙ ap (λ b. if 
 
 -- what taking back says of the started file, it says of the file before
 started_back : (f now new : File) (t n undone : ℕ) (ends : Bool) → now ≡ started f t n ends → RollsBack now t (Ok undone) new
-    → TakesBack f t (place_in (places_at f t) n) (if ends then maps.remove f.txs t else maps.insert f.txs t (active_with (take n (places_at f t)))) undone new
+    → TakesBack f t (place_of_savepoint (places_at f t) n) (if ends then maps.remove f.txs t else maps.insert f.txs t (active_with (take n (places_at f t)))) undone new
 started_back f now new t n undone ends is step =
     let rolling = rolling_to (places_at f t) n ends in
     let over = subst (λ (g : File). RollsBack g t (Ok undone) new) is step in
     let told = subst (λ (o : Option Tx). TakesBack (started f t n ends) t (rolling_place o) (finished (started f t n ends).txs t o) undone new) (get-inserted_tx f.txs t rolling) over in
     at ends told
   where
-    at : (e : Bool) → TakesBack (started f t n ends) t (place_in (places_at f t) n) (if e then maps.remove (maps.insert f.txs t (rolling_to (places_at f t) n ends)) t else maps.insert (maps.insert f.txs t (rolling_to (places_at f t) n ends)) t (active_with (take n (places_at f t)))) undone new
-        → TakesBack f t (place_in (places_at f t) n) (if e then maps.remove f.txs t else maps.insert f.txs t (active_with (take n (places_at f t)))) undone new
-    at true told = (told.0, told.1 ∙ ap (λ (txs : Transactions). let g : File = record f { opening = new.opening; history = take_back f.history t (place_in (places_at f t) n); txs = txs } in g) (remove-insert_tx f.txs t (rolling_to (places_at f t) n ends)))
-    at false told = (told.0, told.1 ∙ ap (λ (txs : Transactions). let g : File = record f { opening = new.opening; history = take_back f.history t (place_in (places_at f t) n); txs = txs } in g) (insert-insert_tx f.txs t (rolling_to (places_at f t) n ends) (active_with (take n (places_at f t)))))
+    at : (e : Bool) → TakesBack (started f t n ends) t (place_of_savepoint (places_at f t) n) (if e then maps.remove (maps.insert f.txs t (rolling_to (places_at f t) n ends)) t else maps.insert (maps.insert f.txs t (rolling_to (places_at f t) n ends)) t (active_with (take n (places_at f t)))) undone new
+        → TakesBack f t (place_of_savepoint (places_at f t) n) (if e then maps.remove f.txs t else maps.insert f.txs t (active_with (take n (places_at f t)))) undone new
+    at true told = (told.0, told.1 ∙ ap (λ (txs : Transactions). let g : File = record f { opening = new.opening; history = take_back f.history t (place_of_savepoint (places_at f t) n); txs = txs } in g) (remove-insert_tx f.txs t (rolling_to (places_at f t) n ends)))
+    at false told = (told.0, told.1 ∙ ap (λ (txs : Transactions). let g : File = record f { opening = new.opening; history = take_back f.history t (place_of_savepoint (places_at f t) n); txs = txs } in g) (insert-insert_tx f.txs t (rolling_to (places_at f t) n ends) (active_with (take n (places_at f t)))))
 
 -- a stop of a rollback, said of the file before it started
 started_stop : (f now new : File) (t n : ℕ) (ends : Bool) (stop : Stop) → now ≡ started f t n ends → RollsBack now t (Err stop) new
-    → StopsAt f t (place_in (places_at f t) n) (maps.insert f.txs t (rolling_to (places_at f t) n ends)) stop.undone stop.left new
+    → StopsAt f t (place_of_savepoint (places_at f t) n) (maps.insert f.txs t (rolling_to (places_at f t) n ends)) stop.undone stop.left new
 started_stop f now new t n ends stop is step =
     let over = subst (λ (g : File). RollsBack g t (Err stop) new) is step in
     subst (λ (o : Option Tx). StopsAt (started f t n ends) t (rolling_place o) (started f t n ends).txs stop.undone stop.left new) (get-inserted_tx f.txs t (rolling_to (places_at f t) n ends)) over

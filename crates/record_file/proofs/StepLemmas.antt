@@ -5,7 +5,7 @@ use Rattle.rec_types.specs.declared.transaction.TxId.{TxId}
 use Rattle.rec_types.proofs.HistoryLemmas.{live_from-first, live_from-take_newest, take_newest-none, take_newest-more}
 use Rattle.rec_types.proofs.LogUseLemmas.{log_len-undo_last}
 use Rattle.tx_log.specs.Log.{lsn_of, prev_of}
-use Rattle.tx_log.specs.Transactions.{place_in}
+use Rattle.tx_log.specs.Transactions.{place_of_savepoint}
 use Rattle.tx_log.specs.declared.log_record.LogRecord.{LogRecord}
 use Rattle.record_file.specs.Abstract.{File}
 use Rattle.record_file.specs.Runs.{Seen, Step, IsKeptSeen, RollbackTo}
@@ -30,7 +30,7 @@ log_long s kept = ap log_len (sym kept.chained.2) ∙ kept.chained.1.whole
 -- a finished rollback logs each change that it took back
 pub logs_each : (old new : Seen) (failed refused : Bool) (t : TxId) (n undone : ℕ) → Step old (record { called = RollbackTo t n (Ok undone); failed = failed; refused = refused }) new → length new.log ≡ length old.log + undone
 logs_each old new failed refused t n undone step =
-    let p = place_in (places_at old.file t.0) n in
+    let p = place_of_savepoint (places_at old.file t.0) n in
     let rolled = step.happens.answer.1.rolled.1 in
     let grown = ap (λ (f : File). log_len f.history) rolled.1 ∙ ap log_len (taken_all old.file.history t.0 p) ∙ log_len_back old.file.history t.0 p (live_from old.file.history t.0 p) (omega arith) in
     omega (arith, grown, rolled.0, log_long old step.kept, log_long new step.keeps)

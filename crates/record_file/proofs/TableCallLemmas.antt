@@ -5,9 +5,9 @@ use Rattle.rec_types.specs.Contents.{write_to}
 use Rattle.rec_types.specs.Table.{counted}
 use Rattle.rec_types.specs.declared.table_state.TableState.{Ghosts}
 use Rattle.record_file.specs.declared.fault.Cause.{Cause}
-use Rattle.tx_log.specs.Log.{key_of, new_of}
+use Rattle.tx_log.specs.Log.{key_of_record, new_of}
 use Rattle.tx_log.specs.declared.log_record.LogRecord.{LogRecord}
-use Rattle.record_file.specs.Abstract.{File, OpenFile, with_txs}
+use Rattle.record_file.specs.Abstract.{File, OpenFile, with_open_txs}
 use Rattle.tx_log.specs.Transactions.{Transactions}
 use Rattle.record_file.specs.Outside.{by_device, TellsDamage}
 use Rattle.record_file.specs.TableCalls.{ChangesTable}
@@ -15,7 +15,7 @@ use Rattle.record_file.proofs.FaultLemmas.{tells_no_damage}
 use Rattle.record_file.proofs.LogGrowthLemmas.{tells_none, tells_one, tells_on}
 
 -- only transactions change
-pub changes_none : {T : Type 0} (t : Ghosts T) (old new : OpenFile T) (txs : Transactions) → new ≡ with_txs old txs → ChangesTable t old None new
+pub changes_none : {T : Type 0} (t : Ghosts T) (old new : OpenFile T) (txs : Transactions) → new ≡ with_open_txs old txs → ChangesTable t old None new
 changes_none t old new txs is = record {
   told = tells_none _ _ _ _ _ (ap (λ (s : OpenFile _). t.contents s.table) is) (ap (λ (s : OpenFile _). s.log) is);
   soundness = ap (λ (s : OpenFile _). t.sound s.table) is;
@@ -49,7 +49,7 @@ answered_then t old mid new x y first then = record {
 }
 
 -- a record was set in the table of an open file, and the log tells it
-pub changes_set : {T A : Type 0} (t : Ghosts T) (held old new : OpenFile T) (x : A) (r : LogRecord) → held ≡ old → Answered t held.table (Ok x) new.table → new.log ≡ held.log ++ r ∷ [] → (IsTrue (t.sound held.table) → t.contents new.table ≡ write_to (t.contents held.table) (key_of r) (new_of r)) → (IsTrue (t.sound held.table) → new.file.opening ≡ held.file.opening) → ChangesTable t old None new
+pub changes_set : {T A : Type 0} (t : Ghosts T) (held old new : OpenFile T) (x : A) (r : LogRecord) → held ≡ old → Answered t held.table (Ok x) new.table → new.log ≡ held.log ++ r ∷ [] → (IsTrue (t.sound held.table) → t.contents new.table ≡ write_to (t.contents held.table) (key_of_record r) (new_of r)) → (IsTrue (t.sound held.table) → new.file.opening ≡ held.file.opening) → ChangesTable t old None new
 changes_set t held old new x r view_is answered grown put opening = subst (λ s. ChangesTable t s None new) view_is record {
   told = tells_one _ _ _ _ _ _ r refl grown put;
   soundness = answered.soundness;

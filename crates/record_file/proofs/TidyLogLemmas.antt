@@ -10,7 +10,7 @@ use Rattle.rec_types.specs.History.{Change, replay}
 use Rattle.rec_types.specs.Kept.{Kept, change_of, history_of, BeforesFit, IsOwned, AllBegun}
 use Rattle.rec_types.specs.declared.transaction.TxId.{TxId}
 use Rattle.rec_types.proofs.TakeBackLemmas.{befores-push, begun-push, begun-more, owned-within}
-use Rattle.tx_log.specs.Log.{last_of, kept_of, kept_by, change_record, IsNumbered, AllWritten, TellsOf, stack, tx_of_record}
+use Rattle.tx_log.specs.Log.{last_of, kept_of, kept_by, change_record, IsNumbered, AllWritten, UndoesUnless, stack, tx_of_record}
 use Rattle.tx_log.specs.LogState.{places_of}
 use Rattle.tx_log.specs.Owners.{claims, owner_of, holder_of}
 use Rattle.tx_log.specs.Transactions.{Tx, fresh, is_open, most_savepoints}
@@ -176,7 +176,7 @@ module _ (s : Seen) (tidy : TidyLog s) where
         tidy.numbered,
       );
       follows = subst AllWritten (sym turned) (
-        (told.prev_is ∙ ap (λ n. last_of n (reverse s.log)) (sym told.tx_is), subst (λ b. TellsOf b next_record (stack (tx_of_record next_record) (reverse s.log))) (sym told.up) tt),
+        (told.prev_is ∙ ap (λ n. last_of n (reverse s.log)) (sym told.tx_is), subst (λ b. UndoesUnless b next_record (stack (tx_of_record next_record) (reverse s.log))) (sym told.up) tt),
         tidy.follows,
       );
       history = ap history_of grown ∙ history-push (logged s.log) c ∙ ap (λ (h : List Change). h ++ change_of c ∷ []) tidy.history;

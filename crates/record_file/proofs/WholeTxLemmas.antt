@@ -4,7 +4,7 @@ use Rattle.std.specs.FinMap as maps
 use Rattle.std.specs.FinMap.{get, get-empty}
 use Rattle.std.specs.Ordering.{nat_cmp}
 use Rattle.tx_log.specs.LogState.{active_with, rolling_to, finished, finished_by}
-use Rattle.tx_log.specs.Transactions.{Transactions, Tx, place_in}
+use Rattle.tx_log.specs.Transactions.{Transactions, Tx, place_of_savepoint}
 use Rattle.tx_log.specs.declared.phase.Rollback.{Rollback}
 use Rattle.record_file.specs.Abstract.{EndsAtBeginning, IsWholeTx, AbortsWhole}
 use Rattle.record_file.proofs.OpenTxLemmas.{same_tx, get-insert_tx, get-remove_tx}
@@ -44,4 +44,4 @@ whole_finished txs n (Some tx) whole = at tx.rollback
 
 -- a rollback that starts so
 pub rolling_whole : (places : List ℕ) (n : ℕ) (ends : Bool) → (IsTrue ends → n ≡ 0) → EndsAtBeginning (rolling_to places n ends).rollback
-rolling_whole places n ends whole over = ap (place_in places) (whole over)
+rolling_whole places n ends whole over = ap (place_of_savepoint places) (whole over)

@@ -15,7 +15,7 @@ use Rattle.tx_log.specs.declared.phase.Phase.{Phase}
 use Rattle.tx_log.specs.declared.phase.Rollback.{Rollback}
 use Rattle.tx_log.specs.declared.log_record.LogRecord.{LogRecord}
 use Rattle.tx_log.specs.declared.log_record.LogRecord.TheVariants.{Update, Compensation, Claim, Unclaim}
-use Rattle.tx_log.specs.Log.{key_of, new_of}
+use Rattle.tx_log.specs.Log.{key_of_record, new_of}
 use Rattle.tx_log.specs.LogCode.{coded_log_record}
 
 -- the contents that the session opened with, the history of its changes, how many transactions were begun, those
@@ -79,14 +79,14 @@ abbrev pub coded_open_file : {T : Type 0} → Coded T → Coded (OpenFile T)
 coded_open_file {T} t = code_by (T × (File × List LogRecord)) (coded× t (coded× coded_file (coded_list coded_log_record))) (λ s. (s.table, (s.file, s.log))) (λ p. record { table = p.0; file = p.1.0; log = p.1.1 }) (λ _. refl)
 
 -- the open file with other transactions
-abbrev pub with_txs : {T : Type 0} → OpenFile T → Transactions → OpenFile T
-with_txs f txs = record { table = f.table; file = record f.file { txs = txs }; log = f.log }
+abbrev pub with_open_txs : {T : Type 0} → OpenFile T → Transactions → OpenFile T
+with_open_txs f txs = record { table = f.table; file = record f.file { txs = txs }; log = f.log }
 
 -- the contents that the records of a log leave, in order: an update puts the new record at its key, a compensation the
 -- old one, and a claim and an unclaim leave them
 abbrev pub written : Contents → List LogRecord → Contents
 written m [] = m
-written m (r ∷ rs) = written (write_to m (key_of r) (new_of r)) rs
+written m (r ∷ rs) = written (write_to m (key_of_record r) (new_of r)) rs
 
 -- what an update tells of before, and what a claim has seen, is what the records before it leave at its key
 abbrev pub Told : Contents → LogRecord → Type 0
@@ -97,7 +97,7 @@ Told m (Unclaim lsn prev tx key undo_next) = Unit {0}
 
 abbrev pub AllTold : Contents → List LogRecord → Type 0
 AllTold m [] = Unit {0}
-AllTold m (r ∷ rs) = Told m r × AllTold (write_to m (key_of r) (new_of r)) rs
+AllTold m (r ∷ rs) = Told m r × AllTold (write_to m (key_of_record r) (new_of r)) rs
 
 -- The new log is the old one and what the call has written. Over a sound table that is what became of the contents;
 -- over any table they are untouched where nothing was written.

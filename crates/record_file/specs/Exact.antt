@@ -4,7 +4,7 @@ use Rattle.rec_types.specs.Contents.{Contents}
 use Rattle.rec_types.specs.History.{Change}
 use Rattle.rec_types.specs.Kept.{change_of}
 use Rattle.rec_types.specs.declared.transaction.TxId.{TxId}
-use Rattle.tx_log.specs.Log.{is_change}
+use Rattle.tx_log.specs.Log.{tells_change}
 use Rattle.tx_log.specs.LogLaws.{undoes, change_told}
 use Rattle.tx_log.specs.Owners.{owner_of}
 use Rattle.tx_log.specs.declared.log_record.LogRecord.{LogRecord}
@@ -18,10 +18,10 @@ pub record IsExact (sound : Bool) (now : Contents) (f : File) (log : List LogRec
   pub owners : (t : ℕ) (x : List ℕ)
       → (owner_of (open_of f) f.history x ≡ Some t) ↔ IsTrue (owns f t x)
   -- the log's updates and claims tell of the changes
-  pub changes : f.history ≡ map (λ u. change_of (change_told log u)) (filter is_change log)
+  pub changes : f.history ≡ map (λ u. change_of (change_told log u)) (filter tells_change log)
   -- exactly those of the changes that were taken back are compensated, each once
   pub compensated : (older newer : List LogRecord) (u : LogRecord)
-      → log ≡ older ++ u ∷ newer → IsTrue (is_change u)
+      → log ≡ older ++ u ∷ newer → IsTrue (tells_change u)
       → length (filter (undoes u) log) ≡ (if (change_told log u).live then 0 else 1)
 
 -- The log grew by one compensation, or unclaim, of each change that was live and is no longer, and by none of any other.
@@ -30,7 +30,7 @@ abbrev pub CompensatesOnce : Seen → Seen → Type 0
 CompensatesOnce old new =
     (more : List LogRecord) × (new.log ≡ old.log ++ more)
     × ((i : ℕ) (update : LogRecord) (past now : Change)
-    → slice_get (filter is_change old.log) i ≡ Some update
+    → slice_get (filter tells_change old.log) i ≡ Some update
     → slice_get old.file.history i ≡ Some past → slice_get new.file.history i ≡ Some now
     → length (filter (undoes update) more) ≡ (if past.live && not now.live then 1 else 0))
 

@@ -1,9 +1,9 @@
 -- A rollback that was stopped, and resumed until it was finished.
 use Rattle.std.specs.Prelude.{◌≡◌, ℕ, zero, not, ◌&&◌, if◌then◌else◌, List, ◌++◌, length, filter, slice_get, Some, Ok, Err}
 use Rattle.rec_types.specs.History.{Change, take_back}
-use Rattle.tx_log.specs.Log.{is_change}
+use Rattle.tx_log.specs.Log.{tells_change}
 use Rattle.tx_log.specs.LogLaws.{undoes}
-use Rattle.tx_log.specs.Transactions.{place_in}
+use Rattle.tx_log.specs.Transactions.{place_of_savepoint}
 use Rattle.tx_log.specs.declared.log_record.LogRecord.{LogRecord}
 use Rattle.record_file.specs.Abstract.{File}
 use Rattle.record_file.specs.Runs.{Called, Seen, RollbackTo, Abort, Resume}
@@ -13,7 +13,7 @@ use Rattle.record_file.specs.declared.fault.RollbackToFault.TheVariants as rollb
 
 -- the call was stopped in a rollback of the transaction to the place
 abbrev pub StopsFirst : File → ℕ → ℕ → Called → Type 0
-StopsFirst f t p (RollbackTo tx n (Err (rollback_faults.Stopped undone left cause))) = (tx.0 ≡ t) × (p ≡ place_in (places_at f t) n)
+StopsFirst f t p (RollbackTo tx n (Err (rollback_faults.Stopped undone left cause))) = (tx.0 ≡ t) × (p ≡ place_of_savepoint (places_at f t) n)
 StopsFirst f t p (Abort tx (Err (abort_faults.Stopped undone left cause))) = (tx.0 ≡ t) × (p ≡ zero)
 StopsFirst f t p called = ⊥
 
@@ -35,7 +35,7 @@ abbrev pub CompensatesTake : Seen → ℕ → ℕ → Seen → Type 0
 CompensatesTake old t p new =
     (more : List LogRecord) × (new.log ≡ old.log ++ more)
     × ((i : ℕ) (update : LogRecord) (past taken : Change)
-    → slice_get (filter is_change old.log) i ≡ Some update
+    → slice_get (filter tells_change old.log) i ≡ Some update
     → slice_get old.file.history i ≡ Some past → past.tx ≡ t
     → slice_get (take_back old.file.history t p) i ≡ Some taken
     → length (filter (undoes update) more) ≡ (if past.live && not taken.live then 1 else 0))

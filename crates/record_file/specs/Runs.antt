@@ -31,7 +31,7 @@ use Rattle.record_file.specs.Refusals.{put_refusal, claim_refusal, remove_refusa
 use Rattle.record_file.specs.declared.fault.Cause.{Cause}
 pub use Rattle.record_file.specs.Seen.{Seen, seen, seen_as, undoubted}
 use Rattle.record_file.specs.Steps.{rose, key_refusal, tx_refusal, returning_refusal, resuming_refusal, Accepts, key_change, BeginStep, PutStep, ClaimStep, RemoveStep, GetStep, SavepointStep, ReleaseStep, CommitStep, RollsBackTo, RollbackToStep, Aborts, AbortStep, Resumes, ResumeStep, EntriesStep, TellOwners, KeysOfStep, status_of}
-use Rattle.record_file.specs.TableCalls.{KeepsTable, KeepsLog}
+use Rattle.record_file.specs.TableCalls.{KeepsTable, LeavesLog}
 
 -- a call with its arguments, and what it answered
 pub data Called : Type 0 where
@@ -87,8 +87,8 @@ abbrev pub AsksKeeping : Seen → Bool → Bool → Seen → Type 0
 AsksKeeping old failed refused new = (failed ≡ false) × (refused ≡ false) × (new ≡ record old { file = new.file; commits = new.commits })
 
 -- A look leaves all that a run sees.
-abbrev pub Looks : Seen → Bool → Bool → Seen → Type 0
-Looks old failed refused new = (failed ≡ false) × (refused ≡ false) × (new ≡ old)
+abbrev pub LooksOnly : Seen → Bool → Bool → Seen → Type 0
+LooksOnly old failed refused new = (failed ≡ false) × (refused ≡ false) × (new ≡ old)
 
 -- The call leaves the table's records, the file and the log.
 abbrev pub Leaves : Seen → Seen → Type 0
@@ -190,14 +190,14 @@ Answers old (Abort t answer) failed refused new = IsCaused (cause_by abort_refus
 Answers old (Resume t answer) failed refused new = IsCaused (cause_by resume_refusal answer) failed refused × IsResumed old t answer new
 Answers old (Commit t answer) failed refused new = AsksKeeping old failed refused new × CommitStep old.file t.0 answer new.file
 Answers old (Entries answer) failed refused new = IsCausedOrLog (cause_by entries_refusal answer) failed refused × Lists old answer new
-Answers old (KeysOf t answer) failed refused new = Looks old failed refused new × KeysOfStep old.file t.0 answer
-Answers old (StatusOf t answer) failed refused new = Looks old failed refused new × (answer ≡ status_of old.file t.0)
-Answers old (Charged count) failed refused new = Looks old failed refused new × (IsTrue old.sound → count ≡ maps.len (charged_of old.file))
-Answers old (Begun count) failed refused new = Looks old failed refused new × (count ≡ old.file.begun)
-Answers old (LogLen count) failed refused new = Looks old failed refused new × (count ≡ log_len old.file.history)
-Answers old (LogUse count) failed refused new = Looks old failed refused new × (count ≡ use_of old.file)
-Answers old (RecordAt lsn answer) failed refused new = Looks old failed refused new × (answer ≡ record_at old.log lsn)
-Answers old (IntoTable answer) failed refused new = Looks old failed refused new × GivesTable old.file answer
+Answers old (KeysOf t answer) failed refused new = LooksOnly old failed refused new × KeysOfStep old.file t.0 answer
+Answers old (StatusOf t answer) failed refused new = LooksOnly old failed refused new × (answer ≡ status_of old.file t.0)
+Answers old (Charged count) failed refused new = LooksOnly old failed refused new × (IsTrue old.sound → count ≡ maps.len (charged_of old.file))
+Answers old (Begun count) failed refused new = LooksOnly old failed refused new × (count ≡ old.file.begun)
+Answers old (LogLen count) failed refused new = LooksOnly old failed refused new × (count ≡ log_len old.file.history)
+Answers old (LogUse count) failed refused new = LooksOnly old failed refused new × (count ≡ use_of old.file)
+Answers old (RecordAt lsn answer) failed refused new = LooksOnly old failed refused new × (answer ≡ record_at old.log lsn)
+Answers old (IntoTable answer) failed refused new = LooksOnly old failed refused new × GivesTable old.file answer
 
 -- an accepted commit
 abbrev pub is_commit : Called → Bool
@@ -245,7 +245,7 @@ SparesFile old (RollbackTo t n answer) new = IfSome (returning_refusal old.file 
 SparesFile old (Abort t answer) new = IfSome (tx_refusal old.file t.0 None) (λ _. new ≡ old)
 SparesFile old (Resume t answer) new = IfSome (resuming_refusal old.file t.0) (λ _. new ≡ old)
 SparesFile old (Entries answer) new = Unit {0}
-SparesFile old called new = KeepsTable old new × KeepsLog old new
+SparesFile old called new = KeepsTable old new × LeavesLog old new
 
 -- From old the call has this answer, and leads to new. A run sees it happen, whether or not the table refused memory in it; what
 -- the table was made of stays; and the file itself is spared where its table isn't asked.

@@ -6,7 +6,7 @@ use Rattle.std.specs.FinMap as maps
 use Rattle.rec_types.specs.History.{Change, live_from, take_back, take_newest, own_count}
 use Rattle.rec_types.specs.declared.transaction.TxId.{TxId}
 use Rattle.rec_types.specs.declared.transaction.Entry.{Entry}
-use Rattle.tx_log.specs.Transactions.{Transactions, Tx, fresh, place_in, depth_of, most_savepoints}
+use Rattle.tx_log.specs.Transactions.{Transactions, Tx, fresh, place_of_savepoint, depth_of, most_savepoints}
 use Rattle.tx_log.specs.declared.phase.Rollback.{Rollback}
 use Rattle.tx_log.specs.Owners.{owner_of, keys_owned}
 use Rattle.tx_log.specs.LogState.{active_with, rolling_to, places_of, finished}
@@ -197,7 +197,7 @@ RollsBack old t answer new = Rolls old t (rolling_place (tx_of old t)) (finished
 -- The rollback of an active transaction to savepoint n, which ends the transaction or leaves it there, as a whole.
 abbrev pub RollsFrom : File → ℕ → ℕ → Bool → Result ℕ Stop → File → Type 0
 RollsFrom old t n ends answer new =
-    Rolls old t (place_in (places_at old t) n) (if ends then maps.remove old.txs t else maps.insert old.txs t (active_with (take n (places_at old t))))
+    Rolls old t (place_of_savepoint (places_at old t) n) (if ends then maps.remove old.txs t else maps.insert old.txs t (active_with (take n (places_at old t))))
     (maps.insert old.txs t (rolling_to (places_at old t) n ends)) answer new
 
 -- A call that rolls back so, unless it is refused for `first`: it is done, or stops on the way.

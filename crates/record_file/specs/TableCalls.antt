@@ -45,5 +45,5 @@ KeepsOrigin t old new = t.origin new.table ≡ t.origin old.table
 abbrev pub KeepsTable : {T : Type 0} → OpenFile T → OpenFile T → Type 0
 KeepsTable old new = new.table ≡ old.table
 
-abbrev pub KeepsLog : {T : Type 0} → OpenFile T → OpenFile T → Type 0
-KeepsLog old new = new.log ≡ old.log
+abbrev pub LeavesLog : {T : Type 0} → OpenFile T → OpenFile T → Type 0
+LeavesLog old new = new.log ≡ old.log

@@ -3,7 +3,7 @@ ghost use Rattle.std.specs.FinMap as maps;
 ghost use Rattle.record_file.specs.Abstract.{new_file};
 ghost use Rattle.record_file.specs.Durable.{AsksKeeper, KeptStep};
 ghost use Rattle.record_file.specs.Runs.{Made, Begin, Savepoint, Release, Commit, GivesTable};
-ghost use Rattle.record_file.specs.TableCalls.{KeepsLog, SameTable};
+ghost use Rattle.record_file.specs.TableCalls.{LeavesLog, SameTable};
 ghost use Rattle.tx_log.specs.Written.{own, writes};
 
 mod changes;
@@ -157,7 +157,7 @@ impl<T: Table> RecordFile<T> {
             (writes (own tx.0 self.old.file.history)) self.old.table result self.new.table }
         ensures same { SameTable T.TableState self.old.table self.new.table }
         ensures moves { K.moves self.old.table self.new.table }
-        ensures log { KeepsLog self.old self.new }
+        ensures log { LeavesLog self.old self.new }
     {
         if !keeper.keeps() {
             self.commit(tx)?;

@@ -10,7 +10,7 @@ ghost use Rattle.rec_types.specs.declared.transaction.TxId.{TxId};
 ghost use Rattle.rec_types.specs.declared.transaction.Entry.{Entry};
 ghost use Rattle.tx_log.specs.Log.{last_of};
 ghost use Rattle.tx_log.specs.Owners.{keys_owned, owner_of};
-ghost use Rattle.tx_log.specs.Transactions.{fresh, place_in};
+ghost use Rattle.tx_log.specs.Transactions.{fresh, place_of_savepoint};
 ghost use Rattle.record_file.specs.Abstract.{File, held_by, new_file, open_of, phase_at, records_of, tx_of, use_of};
 ghost use Rattle.tx_log.specs.Written.{writes};
 ghost use Rattle.record_file.specs.Durable.{CommitsKept, Keeps, committed, overlay};
@@ -101,7 +101,7 @@ pub fn steps()
           failed = failed;
           refused = refused;
         }) new → new.records ≡ replay old.file.opening
-        (take_back old.file.history t.0 (place_in (places_at old.file t.0) n)) }
+        (take_back old.file.history t.0 (place_of_savepoint (places_at old.file t.0) n)) }
     ensures numbers { (old new : Seen) (failed refused : Bool) (t : TxId)
         → (key value : List ℕ) (before : Option (List ℕ)) (lsn prev : ℕ)
         → Step old (record {
@@ -293,7 +293,7 @@ pub fn compensated_once()
           failed = failed;
           refused = refused;
         }) new → new.file.history
-        ≡ take_back old.file.history t.0 (place_in (places_at old.file t.0) n) }
+        ≡ take_back old.file.history t.0 (place_of_savepoint (places_at old.file t.0) n) }
     ensures abort { (old new : Seen) (failed refused : Bool) (t : TxId) (undone : ℕ)
         → Step old (record {
           called = Abort t (Ok undone);

@@ -11,7 +11,7 @@ use Rattle.rec_types.specs.Kept.{Kept, change_of, history_of, is_own, newest_liv
 use Rattle.tx_log.proofs.Chains.{same_number}
 use Rattle.tx_log.proofs.Lives.{single, lives}
 use Rattle.tx_log.proofs.OwnerLemmas.{kept_at, and_left, and_right}
-use Rattle.tx_log.specs.Owners.{says, lack, Standing, nothing, standing, stands_by, absent}
+use Rattle.tx_log.specs.Owners.{says, lack, Standing, nothing, standing, stands_by, keys_absent}
 use Rattle.tx_log.specs.Walks.{is_out}
 use Rattle.rec_types.proofs.ContentsLemmas.{same_key-is, same_key-sym, same_key-of}
 use Rattle.rec_types.proofs.Sizes.{has-set_to}
@@ -26,7 +26,7 @@ absent_after is_open s cs = stands_by is_open s cs
 
 -- the owned keys that are out
 abbrev pub absent_in : (ℕ → Bool) → List Kept → Contents
-absent_in is_open cs = absent is_open cs
+absent_in is_open cs = keys_absent is_open cs
 
 -- one transaction alone is open
 abbrev pub only : ℕ → ℕ → Bool

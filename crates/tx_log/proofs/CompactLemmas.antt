@@ -5,8 +5,8 @@ use Rattle.std.proofs.lemmas.List.{take-append-le, drop-append-le, length-drop}
 use Rattle.std.proofs.lemmas.Option.{slice_get-get_or}
 use Rattle.rec_types.specs.Widths.{widest_record}
 use Rattle.rec_types.specs.declared.transaction.TxId.{TxId}
-use Rattle.tx_log.specs.Compact.{read, IsWithin, before_in, after_in, told_as, back_kind, record_in}
-use Rattle.tx_log.specs.Log.{back_record, back_in, lsn_of, key_of, prev_of, chain, IsNumbered}
+use Rattle.tx_log.specs.Compact.{read, LiesIn, before_in, after_in, told_as, back_kind, record_of_entry}
+use Rattle.tx_log.specs.Log.{back_record, back_in, lsn_of, key_of_record, prev_of, chain, IsNumbered}
 use Rattle.tx_log.specs.Marks.{first_lsn}
 use Rattle.tx_log.specs.Walks.{change_in, link_of, newest_in, is_after, step_to}
 use Rattle.tx_log.proofs.MarkLemmas.{first_there}
@@ -19,7 +19,7 @@ use Rattle.tx_log.specs.declared.records.Kind.TheVariants.{Update, Compensation,
 use Rattle.tx_log.specs.declared.records.Entry.{Entry}
 
 -- a span reads the same once there are more bytes
-pub read-more : (xs ys : List ℕ) (s : Span) → IsWithin (length xs) s → read (xs ++ ys) s ≡ read xs s
+pub read-more : (xs ys : List ℕ) (s : Span) → LiesIn (length xs) s → read (xs ++ ys) s ≡ read xs s
 read-more xs ys s within = at (leb s.len widest_record) refl
   where
     same : s.len ≤ widest_record → take s.len (drop s.at (xs ++ ys)) ≡ take s.len (drop s.at xs)
@@ -35,23 +35,23 @@ read-more xs ys s within = at (leb s.len widest_record) refl
 
 -- the same of all entries
 pub records-more : (xs ys : List ℕ) (es : List Entry)
-    → ((i : ℕ) (e : Entry) → slice_get es i ≡ Some e → IsWithin (length xs) (before_in e))
-    → ((i : ℕ) (e : Entry) → slice_get es i ≡ Some e → IsWithin (length xs) (after_in e))
-    → map (record_in (xs ++ ys)) es ≡ map (record_in xs) es
+    → ((i : ℕ) (e : Entry) → slice_get es i ≡ Some e → LiesIn (length xs) (before_in e))
+    → ((i : ℕ) (e : Entry) → slice_get es i ≡ Some e → LiesIn (length xs) (after_in e))
+    → map (record_of_entry (xs ++ ys)) es ≡ map (record_of_entry xs) es
 records-more xs ys [] before after = refl
 records-more xs ys (e ∷ es) before after =
     (λ i. told_as e.kind e.lsn e.prev e.tx e.key (read-more xs ys (before_in e) (before 0 e refl) i) (read-more xs ys (after_in e) (after 0 e refl) i) e.rest
     ∷ records-more xs ys es (λ j. before (suc j)) (λ j. after (suc j)) i)
 
 -- spans that lie in some bytes lie in more
-pub within-more : (n m : ℕ) (s : Span) → n ≤ m → IsWithin n s → IsWithin m s
+pub within-more : (n m : ℕ) (s : Span) → n ≤ m → LiesIn n s → LiesIn m s
 within-more n m s more within = record { fits = λ short. let fits = within.fits short in omega (arith, fits, more) }
 
 -- after one entry more each of them has a span in the bytes
 pub within-push : (n : ℕ) (span : Entry → Span) (es : List Entry) (new : Entry)
-    → ((i : ℕ) (e : Entry) → slice_get es i ≡ Some e → IsWithin n (span e)) → IsWithin n (span new)
-    → (i : ℕ) (e : Entry) → slice_get (es ++ new ∷ []) i ≡ Some e → IsWithin n (span e)
-within-push n span [] new each last zero e is = subst (λ (o : Option Entry). IsWithin n (span (pick o))) is last
+    → ((i : ℕ) (e : Entry) → slice_get es i ≡ Some e → LiesIn n (span e)) → LiesIn n (span new)
+    → (i : ℕ) (e : Entry) → slice_get (es ++ new ∷ []) i ≡ Some e → LiesIn n (span e)
+within-push n span [] new each last zero e is = subst (λ (o : Option Entry). LiesIn n (span (pick o))) is last
   where
     pick : Option Entry → Entry
     pick (Some x) = x
@@ -62,7 +62,7 @@ within-push n span (d ∷ es) new each last (suc i) e is = within-push n span es
 
 -- what stands for the taking back of a record shares the span of what stood before
 pub back-told : (k : Kind) (lsn prev : ℕ) (tx : TxId) (ulsn uprev : ℕ) (utx : TxId) (key : List ℕ) (before after other : Option (List ℕ)) (undo_next : ℕ)
-    → told_as (back_kind k) lsn prev tx key before other uprev ≡ back_record lsn prev tx (key_of (told_as k ulsn uprev utx key before after undo_next)) (back_in (told_as k ulsn uprev utx key before after undo_next)) (prev_of (told_as k ulsn uprev utx key before after undo_next))
+    → told_as (back_kind k) lsn prev tx key before other uprev ≡ back_record lsn prev tx (key_of_record (told_as k ulsn uprev utx key before after undo_next)) (back_in (told_as k ulsn uprev utx key before after undo_next)) (prev_of (told_as k ulsn uprev utx key before after undo_next))
 back-told Update lsn prev tx ulsn uprev utx key before after other undo_next = refl
 back-told Compensation lsn prev tx ulsn uprev utx key before after other undo_next = refl
 back-told Claim lsn prev tx ulsn uprev utx key before after other undo_next = refl

@@ -6,7 +6,7 @@ use Rattle.rec_types.specs.History.{Change, is_taken, is_pending, log_len}
 use Rattle.rec_types.specs.Kept.{Kept, change_of, history_of, is_own, newest_or, newest_live, undone_or, undone}
 use Rattle.tx_log.proofs.Chains.{same_number}
 use Rattle.tx_log.proofs.Lives.{first, newest_is, stack_is_lives, dead}
-use Rattle.tx_log.specs.Log.{tx_of_record, is_change, noted, kept_by, kept_of, stack, Undoes, TellsOf, AllWritten}
+use Rattle.tx_log.specs.Log.{tx_of_record, tells_change, noted, kept_by, kept_of, stack, Undoes, UndoesUnless, AllWritten}
 use Rattle.tx_log.specs.declared.log_record.LogRecord.{LogRecord}
 
 -- the history of one more change
@@ -106,11 +106,11 @@ undoes_some : (t : ℕ) (rs : List LogRecord) (c : LogRecord) (us : List LogReco
 undoes_some t rs c [] e u = absurd u
 undoes_some t rs c (x ∷ us) e u = log_len-undone t (kept_of rs) (noted x) (newest_of_stack t rs us x e)
 
-len_step : (k : Bool) (r : LogRecord) (rs : List LogRecord) → TellsOf k r (stack (tx_of_record r) rs) → log_len (history_of (kept_by k r (kept_of rs))) ≡ log_len (history_of (kept_of rs)) + 1
+len_step : (k : Bool) (r : LogRecord) (rs : List LogRecord) → UndoesUnless k r (stack (tx_of_record r) rs) → log_len (history_of (kept_by k r (kept_of rs))) ≡ log_len (history_of (kept_of rs)) + 1
 len_step true r rs w = log_len-push (kept_of rs) (noted r) refl
 len_step false r rs w = undoes_some (tx_of_record r) rs r (stack (tx_of_record r) rs) refl w
 
 -- the log is as long as its history says
 pub log_len_is : (rs : List LogRecord) → AllWritten rs → log_len (history_of (kept_of rs)) ≡ length rs
 log_len_is [] w = refl
-log_len_is (r ∷ rs) w = omega (arith, len_step (is_change r) r rs w.0.1, log_len_is rs w.1)
+log_len_is (r ∷ rs) w = omega (arith, len_step (tells_change r) r rs w.0.1, log_len_is rs w.1)

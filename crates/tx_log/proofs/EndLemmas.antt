@@ -18,11 +18,11 @@ use Rattle.tx_log.proofs.KeptLogLemmas.{tx_of_entry}
 use Rattle.tx_log.proofs.LogStateLemmas.{state}
 use Rattle.tx_log.specs.Finds.{Txs, finding, PutsAt}
 use Rattle.tx_log.specs.Fits.{AllKnown, FitsTx}
-use Rattle.tx_log.specs.Log.{tx_of_record, lsn_of, is_change, kept_of, last_of, stepped, stack, noted}
-use Rattle.tx_log.specs.LogFields.{IsKept, state_of}
+use Rattle.tx_log.specs.Log.{tx_of_record, lsn_of, tells_change, kept_of, last_of, stepped, stack, noted}
+use Rattle.tx_log.specs.LogFields.{IsKept, log_state_of}
 use Rattle.tx_log.specs.LogState.{IsRolling, phase_of, places_of, active_with, finished, finished_by, rollback_phase, with_txs}
 use Rattle.tx_log.specs.Owners.{Standing, nothing, standing, stands_by}
-use Rattle.tx_log.specs.Places.{place_at}
+use Rattle.tx_log.specs.Places.{place_of_number}
 use Rattle.tx_log.specs.OpenTxs.{ends_at, rollback_at, txs_of, opens}
 use Rattle.tx_log.specs.Transactions.{Transactions, Tx, fresh}
 use Rattle.tx_log.specs.declared.log.TxLog.TheInside.{Inside}
@@ -83,8 +83,8 @@ closed rs old new begun pending gone_keys t e kept found puts =
     }
 
 -- the state without that transaction
-pub closed_state : (l : Inside) (fs : List (TxId × OpenTx)) (t : ℕ) → PutsAt (finding l.txs.entries) (finding fs) t None → state l.records.items fs l.begun l.limits None ≡ with_txs (state_of l) (maps.remove (state_of l).txs t)
-closed_state l fs t puts = ap (with_txs (state_of l)) (txs-remove (kept_of (reverse l.records.items)) l.txs.entries fs t puts)
+pub closed_state : (l : Inside) (fs : List (TxId × OpenTx)) (t : ℕ) → PutsAt (finding l.txs.entries) (finding fs) t None → state l.records.items fs l.begun l.limits None ≡ with_txs (log_state_of l) (maps.remove (log_state_of l).txs t)
+closed_state l fs t puts = ap (with_txs (log_state_of l)) (txs-remove (kept_of (reverse l.records.items)) l.txs.entries fs t puts)
 
 -- ---- a new transaction
 
@@ -94,7 +94,7 @@ known_last [] n t up known = (refl, refl)
 known_last (r ∷ rs) n t up known =
     let rest = known_last rs n t up known.1 in
     let other : eqb (tx_of_record r) t ≡ false = unequal (tx_of_record r) t (let low = known.0 in omega arith) in
-    (ap (λ (b : Bool). cond b (lsn_of r) (last_of t rs)) other ∙ rest.0, ap (λ (b : Bool). cond b (stepped (is_change r) r (stack t rs)) (stack t rs)) other ∙ rest.1)
+    (ap (λ (b : Bool). cond b (lsn_of r) (last_of t rs)) other ∙ rest.0, ap (λ (b : Bool). cond b (stepped (tells_change r) r (stack t rs)) (stack t rs)) other ∙ rest.1)
 
 pending_on : (o p : ℕ → Bool) (n : ℕ) (cs : List Kept) → AllBegun n cs → ((u : ℕ) → u ≤ n → o u ≡ p u) → pending_of o cs ≡ pending_of p cs
 pending_on o p n [] begun h = refl
@@ -192,7 +192,7 @@ pub finished_is : (cs : List Kept) (es : List (TxId × OpenTx)) (t : ℕ) (e : O
 finished_is cs es t e found h =
     let entry = tx_of_entry cs es t e found in
     ap (finished (txs_of cs es) t) entry
-    ∙ finished_case cs (txs_of cs es) t t (map (λ s. place_at t s cs) e.saves.items) e.rollback (subst IsRolling (phase_is cs es t e found) h)
+    ∙ finished_case cs (txs_of cs es) t t (map (λ s. place_of_number t s cs) e.saves.items) e.rollback (subst IsRolling (phase_is cs es t e found) h)
     ∙ ap (λ (o : Option Tx). cond (ends_at e.rollback) (maps.remove (txs_of cs es) t) (maps.insert (txs_of cs es) t (active_with (places_of o)))) (sym entry)
 
 -- a rollback that ends its transaction takes it out

@@ -11,8 +11,8 @@ use Rattle.tx_log.proofs.Chains.{same_number}
 use Rattle.tx_log.proofs.Lives.{lives, stack_is_lives, eqb_sym}
 use Rattle.tx_log.proofs.OwnerLemmas.{kept_at, unowned, owned_by, none_other, and_left, and_right}
 use Rattle.tx_log.proofs.LogStepLemmas.{find_noted}
-use Rattle.tx_log.specs.Holdings.{HoldsKey, same_bytes, Places, holder, live_of, absent_of, live_at, lowered, busy, or_idle, IsHeld}
-use Rattle.tx_log.specs.Log.{tx_of_record, key_of, old_of, new_of, is_change, kept_of, stepped, stack, noted}
+use Rattle.tx_log.specs.Holdings.{HoldsKey, same_bytes, Places, holder, live_held, absent_of, live_at, lowered, busy, or_idle, IsHeld}
+use Rattle.tx_log.specs.Log.{tx_of_record, key_of_record, old_of, new_of, tells_change, kept_of, stepped, stack, noted}
 use Rattle.tx_log.specs.Owners.{owner_of, other_than, says}
 use Rattle.tx_log.specs.Walks.{is_at, is_out, absent_at}
 use Rattle.tx_log.specs.declared.holding.Holding.{Holding}
@@ -67,21 +67,21 @@ any_counted k (u ∷ us) = any_case (is_at k u) (any_counted k us)
 find_live : (t : ℕ) (rs : List LogRecord) (k : List ℕ) → find (kept_at k) (lives t (kept_of rs)) ≡ option_map noted (find (is_at k) (stack t rs))
 find_live t rs k = ap (find (kept_at k)) (sym (stack_is_lives t rs)) ∙ find_noted k (stack t rs)
 
-mine_case : (t : ℕ) (h : Holding) → live_of t (Some h) ≡ cond (eqb h.owner.0 t) h.live 0
+mine_case : (t : ℕ) (h : Holding) → live_held t (Some h) ≡ cond (eqb h.owner.0 t) h.live 0
 mine_case t h = refl
 
-own_live : (h : Holding) → live_of h.owner.0 (Some h) ≡ h.live
+own_live : (h : Holding) → live_held h.owner.0 (Some h) ≡ h.live
 own_live h = ap (λ (b : Bool). cond b h.live 0) (eq-eqb h.owner.0 h.owner.0 refl)
 
 held_owner : (rs : List LogRecord) (is_open : ℕ → Bool) (holds : HoldsKey) (k : List ℕ) (h : Holding) → IsOwned is_open (kept_of rs) → IsHeld rs is_open holds → holds k ≡ Some h → 0 < h.live → owner_of is_open (history_of (kept_of rs)) k ≡ Some h.owner.0
 held_owner rs is_open holds k h owned is there some =
     let t = h.owner.0 in
     let opened : is_open t ≡ true = subst (λ (o : Option Holding). IfSome o (λ x. 0 < x.live → is_open x.owner.0 ≡ true)) there (is.owned k) some in
-    let many : live_at k (stack t rs) ≡ h.live = is.counted t k opened ∙ ap (live_of t) there ∙ own_live h in
+    let many : live_at k (stack t rs) ≡ h.live = is.counted t k opened ∙ ap (live_held t) there ∙ own_live h in
     let f = some_found k (stack t rs) (omega arith) in
     owned_by is_open t k (kept_of rs) (noted f.0) owned opened (find_live t rs k ∙ ap (option_map noted) f.1)
 
-no_live : (o : Option Holding) (t : ℕ) → holder o ≡ None → live_of t o ≡ 0
+no_live : (o : Option Holding) (t : ℕ) → holder o ≡ None → live_held t o ≡ 0
 no_live None t e = refl
 no_live (Some h) t e = live_case h.live refl (eqb h.owner.0 t)
   where
@@ -110,11 +110,11 @@ holder_is rs is_open holds k owned is = holder_case (holds k) refl
 -- what the step makes of the transaction's live changes, and of what is kept of its key
 pub record IsHoldStep (r : LogRecord) (rs : List LogRecord) (is_open : ℕ → Bool) (holds : HoldsKey) (t : ℕ) (k : List ℕ) (w : Option Holding) : Type 0 where
   pub mine : tx_of_record r ≡ t
-  pub live_there : live_at k (stepped (is_change r) r (stack t rs)) ≡ live_of t w
-  pub absent_there : absent_at k (stepped (is_change r) r (stack t rs)) ≡ absent_of t w
-  pub live_elsewhere : (q : List ℕ) → same_key k q ≡ false → live_at q (stepped (is_change r) r (stack t rs)) ≡ live_at q (stack t rs)
-  pub absent_elsewhere : (q : List ℕ) → same_key k q ≡ false → absent_at q (stepped (is_change r) r (stack t rs)) ≡ absent_at q (stack t rs)
-  pub others : (u : ℕ) → eqb t u ≡ false → (live_of u w ≡ live_of u (holds k)) × (absent_of u w ≡ absent_of u (holds k))
+  pub live_there : live_at k (stepped (tells_change r) r (stack t rs)) ≡ live_held t w
+  pub absent_there : absent_at k (stepped (tells_change r) r (stack t rs)) ≡ absent_of t w
+  pub live_elsewhere : (q : List ℕ) → same_key k q ≡ false → live_at q (stepped (tells_change r) r (stack t rs)) ≡ live_at q (stack t rs)
+  pub absent_elsewhere : (q : List ℕ) → same_key k q ≡ false → absent_at q (stepped (tells_change r) r (stack t rs)) ≡ absent_at q (stack t rs)
+  pub others : (u : ℕ) → eqb t u ≡ false → (live_held u w ≡ live_held u (holds k)) × (absent_of u w ≡ absent_of u (holds k))
   pub owned : IfSome w (λ h. 0 < h.live → is_open h.owner.0 ≡ true)
   pub idle_there : IfSome w (λ h. h.live ≡ 0 → h.absent ≡ false)
 
@@ -125,19 +125,19 @@ module _ (r : LogRecord) (rs : List LogRecord) (is_open : ℕ → Bool) (old new
   old_at : (q : List ℕ) → same_key k q ≡ true → old k ≡ old q
   old_at q same = ap old (same_key-is k q same)
 
-  counted_case : (u : ℕ) (q : List ℕ) → is_open u ≡ true → (a : Bool) → eqb t u ≡ a → (b : Bool) → same_key k q ≡ b → live_at q (cond a (stepped (is_change r) r (stack u rs)) (stack u rs)) ≡ live_of u (cond b w (old q))
+  counted_case : (u : ℕ) (q : List ℕ) → is_open u ≡ true → (a : Bool) → eqb t u ≡ a → (b : Bool) → same_key k q ≡ b → live_at q (cond a (stepped (tells_change r) r (stack u rs)) (stack u rs)) ≡ live_held u (cond b w (old q))
   counted_case u q opened true f true g =
-      (λ i. live_at (sym (same_key-is k q g) i) (stepped (is_change r) r (stack (sym (same_number t u f) i) rs))) ∙ step.live_there ∙ ap (λ (n : ℕ). live_of n w) (same_number t u f)
+      (λ i. live_at (sym (same_key-is k q g) i) (stepped (tells_change r) r (stack (sym (same_number t u f) i) rs))) ∙ step.live_there ∙ ap (λ (n : ℕ). live_held n w) (same_number t u f)
   counted_case u q opened true f false g =
-      ap (λ (n : ℕ). live_at q (stepped (is_change r) r (stack n rs))) (sym (same_number t u f)) ∙ step.live_elsewhere q g ∙ ap (λ (n : ℕ). live_at q (stack n rs)) (same_number t u f) ∙ is.counted u q opened
-  counted_case u q opened false f true g = is.counted u q opened ∙ ap (live_of u) (sym (old_at q g)) ∙ sym (step.others u f).0
+      ap (λ (n : ℕ). live_at q (stepped (tells_change r) r (stack n rs))) (sym (same_number t u f)) ∙ step.live_elsewhere q g ∙ ap (λ (n : ℕ). live_at q (stack n rs)) (same_number t u f) ∙ is.counted u q opened
+  counted_case u q opened false f true g = is.counted u q opened ∙ ap (live_held u) (sym (old_at q g)) ∙ sym (step.others u f).0
   counted_case u q opened false f false g = is.counted u q opened
 
-  marked_case : (u : ℕ) (q : List ℕ) → is_open u ≡ true → (a : Bool) → eqb t u ≡ a → (b : Bool) → same_key k q ≡ b → absent_at q (cond a (stepped (is_change r) r (stack u rs)) (stack u rs)) ≡ absent_of u (cond b w (old q))
+  marked_case : (u : ℕ) (q : List ℕ) → is_open u ≡ true → (a : Bool) → eqb t u ≡ a → (b : Bool) → same_key k q ≡ b → absent_at q (cond a (stepped (tells_change r) r (stack u rs)) (stack u rs)) ≡ absent_of u (cond b w (old q))
   marked_case u q opened true f true g =
-      (λ i. absent_at (sym (same_key-is k q g) i) (stepped (is_change r) r (stack (sym (same_number t u f) i) rs))) ∙ step.absent_there ∙ ap (λ (n : ℕ). absent_of n w) (same_number t u f)
+      (λ i. absent_at (sym (same_key-is k q g) i) (stepped (tells_change r) r (stack (sym (same_number t u f) i) rs))) ∙ step.absent_there ∙ ap (λ (n : ℕ). absent_of n w) (same_number t u f)
   marked_case u q opened true f false g =
-      ap (λ (n : ℕ). absent_at q (stepped (is_change r) r (stack n rs))) (sym (same_number t u f)) ∙ step.absent_elsewhere q g ∙ ap (λ (n : ℕ). absent_at q (stack n rs)) (same_number t u f) ∙ is.marked u q opened
+      ap (λ (n : ℕ). absent_at q (stepped (tells_change r) r (stack n rs))) (sym (same_number t u f)) ∙ step.absent_elsewhere q g ∙ ap (λ (n : ℕ). absent_at q (stack n rs)) (same_number t u f) ∙ is.marked u q opened
   marked_case u q opened false f true g = is.marked u q opened ∙ ap (absent_of u) (sym (old_at q g)) ∙ sym (step.others u f).1
   marked_case u q opened false f false g = is.marked u q opened
 
@@ -150,8 +150,8 @@ module _ (r : LogRecord) (rs : List LogRecord) (is_open : ℕ → Bool) (old new
 
   pub held_grown : IsHeld (r ∷ rs) is_open new
   held_grown = record {
-    counted = λ u q opened. ap (λ (b : Bool). live_at q (cond b (stepped (is_change r) r (stack u rs)) (stack u rs))) (mine_is u) ∙ counted_case u q opened (eqb t u) refl (same_key k q) refl ∙ ap (live_of u) (sym (here q));
-    marked = λ u q opened. ap (λ (b : Bool). absent_at q (cond b (stepped (is_change r) r (stack u rs)) (stack u rs))) (mine_is u) ∙ marked_case u q opened (eqb t u) refl (same_key k q) refl ∙ ap (absent_of u) (sym (here q));
+    counted = λ u q opened. ap (λ (b : Bool). live_at q (cond b (stepped (tells_change r) r (stack u rs)) (stack u rs))) (mine_is u) ∙ counted_case u q opened (eqb t u) refl (same_key k q) refl ∙ ap (live_held u) (sym (here q));
+    marked = λ u q opened. ap (λ (b : Bool). absent_at q (cond b (stepped (tells_change r) r (stack u rs)) (stack u rs))) (mine_is u) ∙ marked_case u q opened (eqb t u) refl (same_key k q) refl ∙ ap (absent_of u) (sym (here q));
     owned = λ q. subst (λ (o : Option Holding). IfSome o (λ h. 0 < h.live → is_open h.owner.0 ≡ true)) (sym (here q)) (some_case (λ h. 0 < h.live → is_open h.owner.0 ≡ true) q step.owned (is.owned q) (same_key k q));
     idle_there = λ q. subst (λ (o : Option Holding). IfSome o (λ h. h.live ≡ 0 → h.absent ≡ false)) (sym (here q)) (some_case (λ h. h.live ≡ 0 → h.absent ≡ false) q step.idle_there (is.idle_there q) (same_key k q));
   }
@@ -163,7 +163,7 @@ pub mine_alone : (rs : List LogRecord) (is_open : ℕ → Bool) (holds : HoldsKe
 mine_alone rs is_open holds k h t owned is there free some = none_other t h.owner.0 (ap (other_than t) (sym (held_owner rs is_open holds k h owned is there some)) ∙ free)
 
 -- what is kept of a key that is free for the transaction
-pub own_or_none : (h : Holding) (t : ℕ) → (0 < h.live → h.owner.0 ≡ t) → live_of t (Some h) ≡ h.live
+pub own_or_none : (h : Holding) (t : ℕ) → (0 < h.live → h.owner.0 ≡ t) → live_held t (Some h) ≡ h.live
 own_or_none h t mine = own_case (eqb h.owner.0 t) refl
   where
     own_case : (b : Bool) → eqb h.owner.0 t ≡ b → cond b h.live 0 ≡ h.live
@@ -194,7 +194,7 @@ own_absent rs is_open holds k h t is there mine opened = own_case (eqb h.owner.0
         idle_here (none_live h.live (λ some. let no : true ≡ false = sym (eq-eqb h.owner.0 t (mine some)) ∙ f in absurd (cc)))
         ∙ sym (marked ∙ ap (λ (b : Bool). cond b h.absent false) f)
 
-other_live : (h : Holding) (t u : ℕ) → (0 < h.live → h.owner.0 ≡ t) → eqb t u ≡ false → live_of u (Some h) ≡ 0
+other_live : (h : Holding) (t u : ℕ) → (0 < h.live → h.owner.0 ≡ t) → eqb t u ≡ false → live_held u (Some h) ≡ 0
 other_live h t u mine apart = other_case h.live refl (eqb h.owner.0 u) refl
   where
     other_case : (n : ℕ) → h.live ≡ n → (b : Bool) → eqb h.owner.0 u ≡ b → cond b h.live 0 ≡ 0
@@ -218,21 +218,21 @@ pub absent_past : (q : List ℕ) (u : LogRecord) (us : List LogRecord) → is_at
 absent_past q u us apart = ap (λ (b : Bool). cond b (is_out (says (new_of u) (list_any (is_at q) us) (old_of u)) (absent_at q us)) (absent_at q us)) apart
 
 -- what is kept of a key after one more change there
-pub accepted_hold : (r : LogRecord) (tx : TxId) (key : List ℕ) (rs : List LogRecord) (is_open : ℕ → Bool) (holds : HoldsKey) (h : Holding) (absent : Bool) → is_change r ≡ true → tx_of_record r ≡ tx.0 → key_of r ≡ key → IsHeld rs is_open holds → holds key ≡ Some h → (0 < h.live → h.owner.0 ≡ tx.0) → is_open tx.0 ≡ true → absent ≡ absent_at key (r ∷ stack tx.0 rs) → IsHoldStep r rs is_open holds tx.0 key (Some (record { owner = tx; live = h.live + 1; absent = absent }))
+pub accepted_hold : (r : LogRecord) (tx : TxId) (key : List ℕ) (rs : List LogRecord) (is_open : ℕ → Bool) (holds : HoldsKey) (h : Holding) (absent : Bool) → tells_change r ≡ true → tx_of_record r ≡ tx.0 → key_of_record r ≡ key → IsHeld rs is_open holds → holds key ≡ Some h → (0 < h.live → h.owner.0 ≡ tx.0) → is_open tx.0 ≡ true → absent ≡ absent_at key (r ∷ stack tx.0 rs) → IsHoldStep r rs is_open holds tx.0 key (Some (record { owner = tx; live = h.live + 1; absent = absent }))
 accepted_hold r tx key rs is_open holds h absent up tx_is key_is is there mine opened absent_is =
     let t = tx.0 in
     let us = stack t rs in
     let own : eqb t t ≡ true = eq-eqb t t refl in
-    let now : live_at key us ≡ h.live = is.counted t key opened ∙ ap (live_of t) there ∙ own_or_none h t mine in
+    let now : live_at key us ≡ h.live = is.counted t key opened ∙ ap (live_held t) there ∙ own_or_none h t mine in
     let idle_here : h.live ≡ 0 → h.absent ≡ false = subst (λ (o : Option Holding). IfSome o (λ x. x.live ≡ 0 → x.absent ≡ false)) there (is.idle_there key) in
     let elsewhere : (q : List ℕ) → same_key key q ≡ false → is_at q r ≡ false = λ q apart. ap (λ k. same_key k q) key_is ∙ apart in
     record {
       mine = tx_is;
-      live_there = ap (λ k. live_at key (stepped k r us)) up ∙ ap (λ (b : Bool). length (cond b (r ∷ filter (is_at key) us) (filter (is_at key) us))) (same_key-of (key_of r) key key_is) ∙ (let more : suc (live_at key us) ≡ h.live + 1 = omega (arith, now) in more) ∙ sym (ap (λ (b : Bool). cond b (h.live + 1) 0) own);
+      live_there = ap (λ k. live_at key (stepped k r us)) up ∙ ap (λ (b : Bool). length (cond b (r ∷ filter (is_at key) us) (filter (is_at key) us))) (same_key-of (key_of_record r) key key_is) ∙ (let more : suc (live_at key us) ≡ h.live + 1 = omega (arith, now) in more) ∙ sym (ap (λ (b : Bool). cond b (h.live + 1) 0) own);
       absent_there = ap (λ k. absent_at key (stepped k r us)) up ∙ sym absent_is ∙ sym (ap (λ (b : Bool). cond b absent false) own);
       live_elsewhere = λ q apart. ap (λ k. live_at q (stepped k r us)) up ∙ ap (λ (b : Bool). length (cond b (r ∷ filter (is_at q) us) (filter (is_at q) us))) (elsewhere q apart);
       absent_elsewhere = λ q apart. ap (λ k. absent_at q (stepped k r us)) up ∙ absent_past q r us (elsewhere q apart);
-      others = λ u apart. (ap (λ (b : Bool). cond b (h.live + 1) 0) apart ∙ sym (other_live h t u mine apart) ∙ ap (live_of u) (sym there), ap (λ (b : Bool). cond b absent false) apart ∙ sym (other_absent h t u mine idle_here apart) ∙ ap (absent_of u) (sym there));
+      others = λ u apart. (ap (λ (b : Bool). cond b (h.live + 1) 0) apart ∙ sym (other_live h t u mine apart) ∙ ap (live_held u) (sym there), ap (λ (b : Bool). cond b absent false) apart ∙ sym (other_absent h t u mine idle_here apart) ∙ ap (absent_of u) (sym there));
       owned = λ some. opened;
       idle_there = λ none. absurd (let no : h.live + 1 ≡ 0 = none in omega arith);
     }
@@ -242,16 +242,16 @@ accepted_hold r tx key rs is_open holds h absent up tx_is key_is is there mine o
 -- what is kept of the key of the newest live change
 pub record IsHolding (rs : List LogRecord) (holds : HoldsKey) (t : ℕ) (u : LogRecord) (us : List LogRecord) : Type 0 where
   pub hold : Holding
-  pub there : holds (key_of u) ≡ Some hold
+  pub there : holds (key_of_record u) ≡ Some hold
   pub owner : hold.owner.0 ≡ t
-  pub live : hold.live ≡ live_at (key_of u) us + 1
+  pub live : hold.live ≡ live_at (key_of_record u) us + 1
 
 -- what is kept of the key of a transaction's newest live change
 pub holding_of : (rs : List LogRecord) (is_open : ℕ → Bool) (holds : HoldsKey) (t : ℕ) (u : LogRecord) (us : List LogRecord) → IsHeld rs is_open holds → is_open t ≡ true → stack t rs ≡ u ∷ us → IsHolding rs holds t u us
 holding_of rs is_open holds t u us is opened whole = hold_case (holds k) refl
   where
     k : List ℕ
-    k = key_of u
+    k = key_of_record u
 
     many : live_at k (stack t rs) ≡ suc (live_at k us)
     many = ap (live_at k) whole ∙ ap (λ (b : Bool). length (cond b (u ∷ filter (is_at k) us) (filter (is_at k) us))) (same_key-of k k refl)
@@ -261,24 +261,24 @@ holding_of rs is_open holds t u us is opened whole = hold_case (holds k) refl
     own_case h there false f e = absurd (omega (arith, e))
 
     hold_case : (o : Option Holding) → holds k ≡ o → IsHolding rs holds t u us
-    hold_case None there = absurd (let no : 0 ≡ suc (live_at k us) = sym (is.counted t k opened ∙ ap (live_of t) there) ∙ many in omega arith)
-    hold_case (Some h) there = own_case h there (eqb h.owner.0 t) refl (sym (is.counted t k opened ∙ ap (live_of t) there) ∙ many)
+    hold_case None there = absurd (let no : 0 ≡ suc (live_at k us) = sym (is.counted t k opened ∙ ap (live_held t) there) ∙ many in omega arith)
+    hold_case (Some h) there = own_case h there (eqb h.owner.0 t) refl (sym (is.counted t k opened ∙ ap (live_held t) there) ∙ many)
 
 -- what is kept of a key after a change there is taken back
-pub compensated_hold : (r : LogRecord) (tx : TxId) (rs : List LogRecord) (is_open : ℕ → Bool) (holds : HoldsKey) (u : LogRecord) (us : List LogRecord) (absent : Bool) (g : IsHolding rs holds tx.0 u us) → is_change r ≡ false → tx_of_record r ≡ tx.0 → IsHeld rs is_open holds → is_open tx.0 ≡ true → stack tx.0 rs ≡ u ∷ us → absent ≡ absent_at (key_of u) us → IsHoldStep r rs is_open holds tx.0 (key_of u) (lowered g.hold absent)
+pub compensated_hold : (r : LogRecord) (tx : TxId) (rs : List LogRecord) (is_open : ℕ → Bool) (holds : HoldsKey) (u : LogRecord) (us : List LogRecord) (absent : Bool) (g : IsHolding rs holds tx.0 u us) → tells_change r ≡ false → tx_of_record r ≡ tx.0 → IsHeld rs is_open holds → is_open tx.0 ≡ true → stack tx.0 rs ≡ u ∷ us → absent ≡ absent_at (key_of_record u) us → IsHoldStep r rs is_open holds tx.0 (key_of_record u) (lowered g.hold absent)
 compensated_hold r tx rs is_open holds u us absent g down tx_is is opened whole absent_is = record {
   mine = tx_is;
   live_there = ap (live_at k) less ∙ live_case (eqb h.live 1) refl;
   absent_there = ap (absent_at k) less ∙ absent_case (eqb h.live 1) refl;
   live_elsewhere = λ q apart. ap (live_at q) less ∙ sym (ap (λ (b : Bool). length (cond b (u ∷ filter (is_at q) us) (filter (is_at q) us))) apart) ∙ ap (live_at q) (sym whole);
   absent_elsewhere = λ q apart. ap (absent_at q) less ∙ sym (absent_past q u us apart) ∙ ap (absent_at q) (sym whole);
-  others = λ v apart. (live_other v apart (eqb h.live 1) ∙ sym (not_its v apart) ∙ ap (live_of v) (sym g.there), absent_other v apart (eqb h.live 1) ∙ sym (not_its_absent v apart) ∙ ap (absent_of v) (sym g.there));
+  others = λ v apart. (live_other v apart (eqb h.live 1) ∙ sym (not_its v apart) ∙ ap (live_held v) (sym g.there), absent_other v apart (eqb h.live 1) ∙ sym (not_its_absent v apart) ∙ ap (absent_of v) (sym g.there));
   owned = owned_case (eqb h.live 1);
   idle_there = idle_case (eqb h.live 1) refl;
 }
   where
     k : List ℕ
-    k = key_of u
+    k = key_of_record u
 
     h : Holding
     h = g.hold
@@ -286,7 +286,7 @@ compensated_hold r tx rs is_open holds u us absent g down tx_is is opened whole 
     t : ℕ
     t = tx.0
 
-    less : stepped (is_change r) r (stack t rs) ≡ us
+    less : stepped (tells_change r) r (stack t rs) ≡ us
     less = ap (λ b. stepped b r (stack t rs)) down ∙ ap (drop 1) whole
 
     own : eqb h.owner.0 t ≡ true
@@ -295,7 +295,7 @@ compensated_hold r tx rs is_open holds u us absent g down tx_is is opened whole 
     foreign : (v : ℕ) → eqb t v ≡ false → eqb h.owner.0 v ≡ false
     foreign v apart = ap (λ (n : ℕ). eqb n v) g.owner ∙ apart
 
-    live_case : (b : Bool) → eqb h.live 1 ≡ b → live_at k us ≡ live_of t (cond b None (Some (record { owner = h.owner; live = h.live - 1; absent = absent })))
+    live_case : (b : Bool) → eqb h.live 1 ≡ b → live_at k us ≡ live_held t (cond b None (Some (record { owner = h.owner; live = h.live - 1; absent = absent })))
     live_case true f = omega (arith, g.live, same_number h.live 1 f)
     live_case false f = (let n : live_at k us ≡ h.live - 1 = omega (arith, g.live) in n) ∙ sym (ap (λ (b : Bool). cond b (h.live - 1) 0) own)
 
@@ -303,7 +303,7 @@ compensated_hold r tx rs is_open holds u us absent g down tx_is is opened whole 
     absent_case true f = nothing_absent k us (omega (arith, g.live, same_number h.live 1 f))
     absent_case false f = sym absent_is ∙ sym (ap (λ (b : Bool). cond b absent false) own)
 
-    live_other : (v : ℕ) → eqb t v ≡ false → (b : Bool) → live_of v (cond b None (Some (record { owner = h.owner; live = h.live - 1; absent = absent }))) ≡ 0
+    live_other : (v : ℕ) → eqb t v ≡ false → (b : Bool) → live_held v (cond b None (Some (record { owner = h.owner; live = h.live - 1; absent = absent }))) ≡ 0
     live_other v apart true = refl
     live_other v apart false = ap (λ (b : Bool). cond b (h.live - 1) 0) (foreign v apart)
 
@@ -311,7 +311,7 @@ compensated_hold r tx rs is_open holds u us absent g down tx_is is opened whole 
     absent_other v apart true = refl
     absent_other v apart false = ap (λ (b : Bool). cond b absent false) (foreign v apart)
 
-    not_its : (v : ℕ) → eqb t v ≡ false → live_of v (Some h) ≡ 0
+    not_its : (v : ℕ) → eqb t v ≡ false → live_held v (Some h) ≡ 0
     not_its v apart = ap (λ (b : Bool). cond b h.live 0) (foreign v apart)
 
     not_its_absent : (v : ℕ) → eqb t v ≡ false → absent_of v (Some h) ≡ false
@@ -339,7 +339,7 @@ held_begun rs is_open opened_now holds n is within same new none = record {
     closed : is_open (n + 1) ≡ true → ⊥
     closed h = let low = within (n + 1) h in omega arith
 
-    new_live : (o : Option Holding) → IfSome o (λ h. 0 < h.live → is_open h.owner.0 ≡ true) → 0 ≡ live_of (n + 1) o
+    new_live : (o : Option Holding) → IfSome o (λ h. 0 < h.live → is_open h.owner.0 ≡ true) → 0 ≡ live_held (n + 1) o
     new_live None owned = refl
     new_live (Some h) owned = live_case h.live refl (eqb h.owner.0 (n + 1)) refl
       where
@@ -357,8 +357,8 @@ held_begun rs is_open opened_now holds n is within same new none = record {
         absent_case zero f true g = sym (idle_here f)
         absent_case (suc m) f true g = absurd (closed (ap is_open (sym (same_number h.owner.0 (n + 1) g)) ∙ owned (omega arith)))
 
-    count_case : (t : ℕ) (k : List ℕ) → opened_now t ≡ true → (b : Bool) → eqb (n + 1) t ≡ b → live_at k (stack t rs) ≡ live_of t (holds k)
-    count_case t k opened true f = ap (λ (m : ℕ). live_at k (stack m rs)) (sym (same_number (n + 1) t f)) ∙ ap (live_at k) none ∙ new_live (holds k) (is.owned k) ∙ ap (λ (m : ℕ). live_of m (holds k)) (same_number (n + 1) t f)
+    count_case : (t : ℕ) (k : List ℕ) → opened_now t ≡ true → (b : Bool) → eqb (n + 1) t ≡ b → live_at k (stack t rs) ≡ live_held t (holds k)
+    count_case t k opened true f = ap (λ (m : ℕ). live_at k (stack m rs)) (sym (same_number (n + 1) t f)) ∙ ap (live_at k) none ∙ new_live (holds k) (is.owned k) ∙ ap (λ (m : ℕ). live_held m (holds k)) (same_number (n + 1) t f)
     count_case t k opened false f = is.counted t k (sym (same t f) ∙ opened)
 
     mark_case : (t : ℕ) (k : List ℕ) → opened_now t ≡ true → (b : Bool) → eqb (n + 1) t ≡ b → absent_at k (stack t rs) ≡ absent_of t (holds k)
@@ -396,7 +396,7 @@ none_live k (u ∷ us) h = none_case (is_at k u) h (none_live k us)
 -- what is kept of keys when a transaction ends and its keys are free
 pub held_ended : (rs : List LogRecord) (is_open : ℕ → Bool) (old new : HoldsKey) (t : ℕ) → IsHeld rs is_open old → is_open t ≡ true → Freed old new (stack t rs) → IsHeld rs (without t is_open) new
 held_ended rs is_open old new t is opened freed = record {
-  counted = λ u k still. count_case u k (still_open u still) (list_any (is_at k) (stack t rs)) refl ∙ ap (live_of u) (sym (freed k));
+  counted = λ u k still. count_case u k (still_open u still) (list_any (is_at k) (stack t rs)) refl ∙ ap (live_held u) (sym (freed k));
   marked = λ u k still. mark_case u k (still_open u still) (list_any (is_at k) (stack t rs)) refl ∙ ap (absent_of u) (sym (freed k));
   owned = λ k. subst (λ (o : Option Holding). IfSome o (λ h. 0 < h.live → without t is_open h.owner.0 ≡ true)) (sym (freed k)) (owned_case k (list_any (is_at k) (stack t rs)) refl (old k) refl);
   idle_there = λ k. subst (λ (o : Option Holding). IfSome o (λ h. h.live ≡ 0 → h.absent ≡ false)) (sym (freed k)) (idle_case k (list_any (is_at k) (stack t rs)));
@@ -413,20 +413,20 @@ held_ended rs is_open old new t is opened freed = record {
     its : (k : List ℕ) (h : Holding) → old k ≡ Some h → list_any (is_at k) (stack t rs) ≡ true → h.owner.0 ≡ t
     its k h there any = its_case (eqb h.owner.0 t) refl
       where
-        many : 0 < live_of t (Some h)
-        many = subst (λ (n : ℕ). 0 < n) (is.counted t k opened ∙ ap (live_of t) there) (any_live k (stack t rs) any)
+        many : 0 < live_held t (Some h)
+        many = subst (λ (n : ℕ). 0 < n) (is.counted t k opened ∙ ap (live_held t) there) (any_live k (stack t rs) any)
 
         its_case : (b : Bool) → eqb h.owner.0 t ≡ b → h.owner.0 ≡ t
         its_case true f = same_number h.owner.0 t f
-        its_case false f = absurd (let none : live_of t (Some h) ≡ 0 = ap (λ (b : Bool). cond b h.live 0) f in omega (arith, many, none))
+        its_case false f = absurd (let none : live_held t (Some h) ≡ 0 = ap (λ (b : Bool). cond b h.live 0) f in omega (arith, many, none))
 
-    foreign : (k : List ℕ) (u : ℕ) → eqb t u ≡ false → list_any (is_at k) (stack t rs) ≡ true → (o : Option Holding) → old k ≡ o → (live_of u o ≡ 0) × (absent_of u o ≡ false)
+    foreign : (k : List ℕ) (u : ℕ) → eqb t u ≡ false → list_any (is_at k) (stack t rs) ≡ true → (o : Option Holding) → old k ≡ o → (live_held u o ≡ 0) × (absent_of u o ≡ false)
     foreign k u apart any None there = (refl, refl)
     foreign k u apart any (Some h) there =
         let other : eqb h.owner.0 u ≡ false = ap (λ (n : ℕ). eqb n u) (its k h there any) ∙ apart in
         (ap (λ (b : Bool). cond b h.live 0) other, ap (λ (b : Bool). cond b h.absent false) other)
 
-    count_case : (u : ℕ) (k : List ℕ) → (is_open u ≡ true) × (eqb t u ≡ false) → (b : Bool) → list_any (is_at k) (stack t rs) ≡ b → live_at k (stack u rs) ≡ live_of u (cond b None (old k))
+    count_case : (u : ℕ) (k : List ℕ) → (is_open u ≡ true) × (eqb t u ≡ false) → (b : Bool) → list_any (is_at k) (stack t rs) ≡ b → live_at k (stack u rs) ≡ live_held u (cond b None (old k))
     count_case u k o true any = is.counted u k o.0 ∙ (foreign k u o.1 any (old k) refl).0
     count_case u k o false any = is.counted u k o.0
 
@@ -435,7 +435,7 @@ held_ended rs is_open old new t is opened freed = record {
     mark_case u k o false any = is.marked u k o.0
 
     not_its : (k : List ℕ) (h : Holding) → old k ≡ Some h → list_any (is_at k) (stack t rs) ≡ false → 0 < h.live → (b : Bool) → eqb h.owner.0 t ≡ b → b ≡ false
-    not_its k h there any some true f = absurd (let none : live_of t (Some h) ≡ 0 = ap (live_of t) (sym there) ∙ sym (is.counted t k opened) ∙ none_live k (stack t rs) any in let all : live_of t (Some h) ≡ h.live = ap (λ (b : Bool). cond b h.live 0) f in omega (arith, none, all, some))
+    not_its k h there any some true f = absurd (let none : live_held t (Some h) ≡ 0 = ap (live_held t) (sym there) ∙ sym (is.counted t k opened) ∙ none_live k (stack t rs) any in let all : live_held t (Some h) ≡ h.live = ap (λ (b : Bool). cond b h.live 0) f in omega (arith, none, all, some))
     not_its k h there any some false f = refl
 
     owned_case : (k : List ℕ) (b : Bool) → list_any (is_at k) (stack t rs) ≡ b → (o : Option Holding) → old k ≡ o → IfSome (cond b None (old k)) (λ h. 0 < h.live → without t is_open h.owner.0 ≡ true)
@@ -451,7 +451,7 @@ held_ended rs is_open old new t is opened freed = record {
 -- nothing is held at the beginning
 pub held_nothing : (holds : HoldsKey) (is_open : ℕ → Bool) → ((k : List ℕ) → holds k ≡ None) → IsHeld [] is_open holds
 held_nothing holds is_open none = record {
-  counted = λ t k opened. sym (ap (live_of t) (none k));
+  counted = λ t k opened. sym (ap (live_held t) (none k));
   marked = λ t k opened. sym (ap (absent_of t) (none k));
   owned = λ k. subst (λ (o : Option Holding). IfSome o (λ h. 0 < h.live → is_open h.owner.0 ≡ true)) (sym (none k)) tt;
   idle_there = λ k. subst (λ (o : Option Holding). IfSome o (λ h. h.live ≡ 0 → h.absent ≡ false)) (sym (none k)) tt;
@@ -463,13 +463,13 @@ cond_both : {A : Type 0} (b : Bool) (x y z : A) → x ≡ y → z ≡ y → cond
 cond_both true x y z e f = e
 cond_both false x y z e f = f
 
-module _ (rs : List LogRecord) (is_open : ℕ → Bool) (old new : HoldsKey) (k : List ℕ) (w : Option Holding) (is : IsHeld rs is_open old) (places : Places old new k w) (live : (t : ℕ) → live_of t w ≡ live_of t (old k)) (absent : (t : ℕ) → absent_of t w ≡ absent_of t (old k)) (owned_w : IfSome w (λ h. 0 < h.live → is_open h.owner.0 ≡ true)) (idle_w : IfSome w (λ h. h.live ≡ 0 → h.absent ≡ false)) where
+module _ (rs : List LogRecord) (is_open : ℕ → Bool) (old new : HoldsKey) (k : List ℕ) (w : Option Holding) (is : IsHeld rs is_open old) (places : Places old new k w) (live : (t : ℕ) → live_held t w ≡ live_held t (old k)) (absent : (t : ℕ) → absent_of t w ≡ absent_of t (old k)) (owned_w : IfSome w (λ h. 0 < h.live → is_open h.owner.0 ≡ true)) (idle_w : IfSome w (λ h. h.live ≡ 0 → h.absent ≡ false)) where
   place_case : (P : Option Holding → Type 0) (q : List ℕ) → P w → P (old q) → (b : Bool) → P (cond b w (old q))
   place_case P q this other true = this
   place_case P q this other false = other
 
-  live_case : (t : ℕ) (q : List ℕ) (b : Bool) → same_bytes k q ≡ b → live_of t (cond b w (old q)) ≡ live_of t (old q)
-  live_case t q true f = live t ∙ ap (λ (x : List ℕ). live_of t (old x)) (same_key-is k q (sym (same_bytes-key k q) ∙ f))
+  live_case : (t : ℕ) (q : List ℕ) (b : Bool) → same_bytes k q ≡ b → live_held t (cond b w (old q)) ≡ live_held t (old q)
+  live_case t q true f = live t ∙ ap (λ (x : List ℕ). live_held t (old x)) (same_key-is k q (sym (same_bytes-key k q) ∙ f))
   live_case t q false f = refl
 
   absent_case : (t : ℕ) (q : List ℕ) (b : Bool) → same_bytes k q ≡ b → absent_of t (cond b w (old q)) ≡ absent_of t (old q)
@@ -478,13 +478,13 @@ module _ (rs : List LogRecord) (is_open : ℕ → Bool) (old new : HoldsKey) (k 
 
   pub held_same : IsHeld rs is_open new
   held_same = record {
-    counted = λ t q opened. is.counted t q opened ∙ sym (ap (live_of t) (places q) ∙ live_case t q (same_bytes k q) refl);
+    counted = λ t q opened. is.counted t q opened ∙ sym (ap (live_held t) (places q) ∙ live_case t q (same_bytes k q) refl);
     marked = λ t q opened. is.marked t q opened ∙ sym (ap (absent_of t) (places q) ∙ absent_case t q (same_bytes k q) refl);
     owned = λ q. subst (λ (o : Option Holding). IfSome o (λ h. 0 < h.live → is_open h.owner.0 ≡ true)) (sym (places q)) (place_case (λ o. IfSome o (λ h. 0 < h.live → is_open h.owner.0 ≡ true)) q owned_w (is.owned q) (same_bytes k q));
     idle_there = λ q. subst (λ (o : Option Holding). IfSome o (λ h. h.live ≡ 0 → h.absent ≡ false)) (sym (places q)) (place_case (λ o. IfSome o (λ h. h.live ≡ 0 → h.absent ≡ false)) q idle_w (is.idle_there q) (same_bytes k q));
   }
 
-busy_live : (o : Option Holding) (t : ℕ) → live_of t (busy o) ≡ live_of t o
+busy_live : (o : Option Holding) (t : ℕ) → live_held t (busy o) ≡ live_held t o
 busy_live None t = refl
 busy_live (Some h) t = busy_case (eqb h.live 0) refl
   where
@@ -492,7 +492,7 @@ busy_live (Some h) t = busy_case (eqb h.live 0) refl
     zero_case true n e = sym e
     zero_case false n e = refl
 
-    busy_case : (b : Bool) → eqb h.live 0 ≡ b → live_of t (cond b None (Some h)) ≡ live_of t (Some h)
+    busy_case : (b : Bool) → eqb h.live 0 ≡ b → live_held t (cond b None (Some h)) ≡ live_held t (Some h)
     busy_case true f = zero_case (eqb h.owner.0 t) h.live (same_number h.live 0 f)
     busy_case false f = refl
 
@@ -520,7 +520,7 @@ busy_some P (Some x) h = busy_case (eqb x.live 0)
 pub held_busy : (rs : List LogRecord) (is_open : ℕ → Bool) (old new : HoldsKey) (k : List ℕ) → IsHeld rs is_open old → Places old new k (busy (old k)) → IsHeld rs is_open new
 held_busy rs is_open old new k is places = held_same rs is_open old new k (busy (old k)) is places (busy_live (old k)) (λ t. busy_absent (old k) t (is.idle_there k)) (busy_some _ (old k) (is.owned k)) (busy_some _ (old k) (is.idle_there k))
 
-idle_live : (o : Option Holding) (t : ℕ) → live_of t (Some (or_idle o)) ≡ live_of t o
+idle_live : (o : Option Holding) (t : ℕ) → live_held t (Some (or_idle o)) ≡ live_held t o
 idle_live None t = cond_both (eqb 0 t) 0 0 0 refl refl
 idle_live (Some h) t = refl
 
@@ -545,8 +545,8 @@ pub held_equal : (rs : List LogRecord) (is_open : ℕ → Bool) (old new : Holds
 held_equal rs is_open old new is same = subst (IsHeld rs is_open) (λ i q. sym (same q) i) is
 
 -- the keys of one more change are freed
-pub freed_more : (k q : List ℕ) (u : LogRecord) (us : List LogRecord) (x : Option Holding) → key_of u ≡ k → cond (list_any (is_at q) us) None (cond (same_bytes k q) None x) ≡ cond (list_any (is_at q) (u ∷ us)) None x
-freed_more k q u us x is = ap (λ (b : Bool). cond (list_any (is_at q) us) None (cond b None x)) (same_bytes-key k q ∙ ap (λ (y : List ℕ). same_key y q) (sym is)) ∙ both_case (same_key (key_of u) q) (list_any (is_at q) us)
+pub freed_more : (k q : List ℕ) (u : LogRecord) (us : List LogRecord) (x : Option Holding) → key_of_record u ≡ k → cond (list_any (is_at q) us) None (cond (same_bytes k q) None x) ≡ cond (list_any (is_at q) (u ∷ us)) None x
+freed_more k q u us x is = ap (λ (b : Bool). cond (list_any (is_at q) us) None (cond b None x)) (same_bytes-key k q ∙ ap (λ (y : List ℕ). same_key y q) (sym is)) ∙ both_case (same_key (key_of_record u) q) (list_any (is_at q) us)
   where
     both_case : (a b : Bool) → cond b None (cond a None x) ≡ cond (a || b) None x
     both_case true true = refl

@@ -19,11 +19,11 @@ use Rattle.tx_log.proofs.WalkSteps.{IsStep}
 use Rattle.tx_log.specs.declared.undo_chain.LiveChange.{LiveChange}
 use Rattle.tx_log.specs.Finds.{finding}
 use Rattle.tx_log.specs.Fits.{AllFit}
-use Rattle.tx_log.specs.Log.{tx_of_record, is_change, kept_of, stepped, stack, chain, noted}
-use Rattle.tx_log.specs.LogFields.{state_of, IsKept, IsTxLog}
+use Rattle.tx_log.specs.Log.{tx_of_record, tells_change, kept_of, stepped, stack, chain, noted}
+use Rattle.tx_log.specs.LogFields.{log_state_of, IsKept, IsTxLog}
 use Rattle.tx_log.specs.LogState.{LogState, phase_of, phase_in, open_in, use_in, places_of, IsLog}
 use Rattle.tx_log.specs.Owners.{holder_of, says, lack, Standing, nothing, standing, stands_by}
-use Rattle.tx_log.specs.Places.{place_at}
+use Rattle.tx_log.specs.Places.{place_of_number}
 use Rattle.tx_log.specs.OpenTxs.{rollback_at, tx_at, txs_of, opens}
 use Rattle.tx_log.specs.Transactions.{Tx, Transactions, is_open, most_savepoints}
 use Rattle.tx_log.specs.Walks.{is_out, absent_at}
@@ -41,7 +41,7 @@ phase_found t cs None p h = absurd (cc)
 phase_found t cs (Some e) p h = refl
 
 -- an active transaction of the log is open in its map
-pub active_open : (l : Inside) (s : LogState) (t : ℕ) → state_of l ≡ s → phase_in s t ≡ Some Active → IsSome (finding l.txs.entries t)
+pub active_open : (l : Inside) (s : LogState) (t : ℕ) → log_state_of l ≡ s → phase_in s t ≡ Some Active → IsSome (finding l.txs.entries t)
 active_open l s t view active =
     let cs = kept_of (reverse l.records.items) in
     phase_found t cs (finding l.txs.entries t) Active (ap (option_map phase_of) (sym (get-txs_of cs l.txs.entries t)) ∙ ap (λ (s : LogState). phase_in s t) view ∙ active)
@@ -63,7 +63,7 @@ pub some_of : {A : Type 0} (x y : A) → Some x ≡ Some y → x ≡ y
 some_of x y h = cc
 
 -- an active transaction has no rollback
-pub active_calm : (l : Inside) (s : LogState) (t : ℕ) (e : OpenTx) → state_of l ≡ s → phase_in s t ≡ Some Active → finding l.txs.entries t ≡ Some e → e.rollback ≡ None
+pub active_calm : (l : Inside) (s : LogState) (t : ℕ) (e : OpenTx) → log_state_of l ≡ s → phase_in s t ≡ Some Active → finding l.txs.entries t ≡ Some e → e.rollback ≡ None
 active_calm l s t e view active found =
     let cs = kept_of (reverse l.records.items) in
     active_case cs t e.rollback (some_of _ _ (ap (λ (o : Option OpenTx). option_map phase_of (option_map (tx_at t cs) o)) (sym found) ∙ ap (option_map phase_of) (sym (get-txs_of cs l.txs.entries t)) ∙ ap (λ (s : LogState). phase_in s t) view ∙ active))
@@ -85,8 +85,8 @@ stack_step : (k : Bool) (t n : ℕ) (r : LogRecord) (us : List LogRecord) → le
 stack_step true t n r us h = omega arith
 stack_step false t n r us h = let d = drop_le us n h in omega arith
 
-stack_case : (t n : ℕ) (r : LogRecord) (us : List LogRecord) → length us ≤ n → (b : Bool) → length (cond b (stepped (is_change r) r us) us) ≤ suc n
-stack_case t n r us h true = stack_step (is_change r) t n r us h
+stack_case : (t n : ℕ) (r : LogRecord) (us : List LogRecord) → length us ≤ n → (b : Bool) → length (cond b (stepped (tells_change r) r us) us) ≤ suc n
+stack_case t n r us h true = stack_step (tells_change r) t n r us h
 stack_case t n r us h false = omega arith
 
 -- a transaction has no more live changes than the log has records
@@ -181,7 +181,7 @@ depth_found rs n t es fit = subst (λ (o : Option Tx). length (places_of o) ≤ 
   where
     depth_case : (o : Option OpenTx) → finding es t ≡ o → length (places_of (option_map (tx_at t (kept_of rs)) o)) ≤ most_savepoints
     depth_case None f = omega arith
-    depth_case (Some e) f = let low = (found_fits rs n t (finding es) e fit f).depth in omega (arith, length-map e.saves.items (λ s. place_at t s (kept_of rs)))
+    depth_case (Some e) f = let low = (found_fits rs n t (finding es) e fit f).depth in omega (arith, length-map e.saves.items (λ s. place_of_number t s (kept_of rs)))
 
 -- a log that is kept within its limits is one
 pub is_log : (s : LogState) (rs : List LogRecord) (es : List (TxId × OpenTx)) (pending gone_keys : ℕ) → IsKept rs (finding es) s.begun pending gone_keys → length rs + pending ≤ s.limits.log_records → s.begun ≤ s.limits.begins → s.changes ≡ kept_of rs → s.txs ≡ txs_of (kept_of rs) es → IsLog s
@@ -198,7 +198,7 @@ is_log s rs es pending gone_keys kept fits within cs_is txs_is =
     }
 
 -- what the fields of a log say of it
-pub kept_now : (l : Inside) → IsTxLog l → (s : LogState) → state_of l ≡ s → IsLog s
+pub kept_now : (l : Inside) → IsTxLog l → (s : LogState) → log_state_of l ≡ s → IsLog s
 kept_now l is s view =
     subst IsLog view (is_log _ (reverse l.records.items) l.txs.entries l.pending l.gone is.log_kept (omega (arith, is.bounded.fits, length-reverse l.records.items)) is.bounded.within refl refl)
 

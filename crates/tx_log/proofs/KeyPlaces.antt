@@ -7,7 +7,7 @@ use Rattle.std.specs.Map.{lookup_key, keys_of, values_of}
 use Rattle.indexmap.specs.IndexMap.{IndexMap, insert_entry, insert_index, with_value_at, IsUnique, Updates}
 use Rattle.indexmap.proofs.CallerLemmas.{updates-with_value_at}
 use Rattle.tx_log.proofs.HoldingLemmas.{same_bytes-key}
-use Rattle.tx_log.specs.Holdings.{held, same_bytes, Places, HeldAt, busy}
+use Rattle.tx_log.specs.Holdings.{holdings_in, same_bytes, Places, HeldAt, busy}
 use Rattle.tx_log.specs.declared.holding.Holding.{Holding}
 use Rattle.rec_types.proofs.ContentsLemmas.{same_key-is}
 
@@ -29,7 +29,7 @@ found_key k [] y h = absurd (cc)
 found_key k (e ∷ es) y h = key_case k e.0 y (lookup_key (same_bytes k) es) (found_key k es y) (same_bytes k e.0) refl h
 
 -- where a key stands in the map
-pub held_at : {S : Type 0} (m : IndexMap (List ℕ) Holding S) (k : List ℕ) (i : ℕ) (y : List ℕ) (h : Holding) → IsUnique same_bytes m → slice_get m.entries i ≡ Some (y, h) → lookup_key (same_bytes k) m.entries ≡ Some y → Some h ≡ held m k → HeldAt m k i
+pub held_at : {S : Type 0} (m : IndexMap (List ℕ) Holding S) (k : List ℕ) (i : ℕ) (y : List ℕ) (h : Holding) → IsUnique same_bytes m → slice_get m.entries i ≡ Some (y, h) → lookup_key (same_bytes k) m.entries ≡ Some y → Some h ≡ holdings_in m k → HeldAt m k i
 held_at m k i y h unique at key value = record {
   hold = h;
   entry = at ∙ ap (λ (x : List ℕ). Some (x, h)) (found_key k m.entries y key);
@@ -59,7 +59,7 @@ pub held_new : {S : Type 0} (m n : IndexMap (List ℕ) Holding S) (k : List ℕ)
 held_new m n k i w at updates entries unique = record {
   hold = w;
   entry = (λ j. slice_get (entries j) (at j)) ∙ inserted_there m.entries k w;
-  there = updates.0 k ∙ ap (λ (b : Bool). cond b (Some w) (held m k)) (same_bytes-equiv.refl k);
+  there = updates.0 k ∙ ap (λ (b : Bool). cond b (Some w) (holdings_in m k)) (same_bytes-equiv.refl k);
   unique = unique;
 }
 
@@ -68,32 +68,32 @@ pub held_same : {S : Type 0} (m n : IndexMap (List ℕ) Holding S) (k : List ℕ
 held_same m n k i same stands = subst (λ (x : IndexMap (List ℕ) Holding _). HeldAt x k i) (sym same) stands
 
 -- what is read at the place is what is kept of the key
-pub key_read : {S : Type 0} (m : IndexMap (List ℕ) Holding S) (k : List ℕ) (i : ℕ) (d : Holding) → HeldAt m k i → slice_get (values_of m.entries) i ≡ Some d → held m k ≡ Some d
+pub key_read : {S : Type 0} (m : IndexMap (List ℕ) Holding S) (k : List ℕ) (i : ℕ) (d : Holding) → HeldAt m k i → slice_get (values_of m.entries) i ≡ Some d → holdings_in m k ≡ Some d
 key_read m k i d s value = s.there ∙ ap Some (sym (value_there m.entries i k s.hold d s.entry value))
 
 -- what is written there is the key's
-pub key_write : {S : Type 0} (m : IndexMap (List ℕ) Holding S) (k : List ℕ) (i : ℕ) (w : Holding) → HeldAt m k i → Places (held m) (held (with_value_at m i w)) k (Some w)
+pub key_write : {S : Type 0} (m : IndexMap (List ℕ) Holding S) (k : List ℕ) (i : ℕ) (w : Holding) → HeldAt m k i → Places (holdings_in m) (holdings_in (with_value_at m i w)) k (Some w)
 key_write m k i w s = (updates-with_value_at m i w same_bytes-equiv s.unique k s.hold s.entry).0
 
 -- what is taken out there is the key
-pub key_taken : {S : Type 0} (m n : IndexMap (List ℕ) Holding S) (k : List ℕ) (i : ℕ) (p : List ℕ × Holding) → HeldAt m k i → slice_get m.entries i ≡ Some p → Updates same_bytes m n p.0 None → Places (held m) (held n) k None
+pub key_taken : {S : Type 0} (m n : IndexMap (List ℕ) Holding S) (k : List ℕ) (i : ℕ) (p : List ℕ × Holding) → HeldAt m k i → slice_get m.entries i ≡ Some p → Updates same_bytes m n p.0 None → Places (holdings_in m) (holdings_in n) k None
 key_taken m n k i p s at updates =
     let same : (k, s.hold) ≡ p = some_is (sym s.entry ∙ at) in
-    λ q. updates.0 q ∙ ap (λ (x : List ℕ × Holding). cond (same_bytes x.0 q) None (held m q)) (sym same)
+    λ q. updates.0 q ∙ ap (λ (x : List ℕ × Holding). cond (same_bytes x.0 q) None (holdings_in m q)) (sym same)
   where
     some_is : {x y : List ℕ × Holding} → Some x ≡ Some y → x ≡ y
     some_is h = cc
 
 -- a key without a live change is taken out
-pub idle_taken : {S : Type 0} (m n : IndexMap (List ℕ) Holding S) (k y : List ℕ) (i j : ℕ) (h : Holding) (r : Option (List ℕ × Holding)) → slice_get m.entries i ≡ Some (y, h) → i ≡ j → Some y ≡ lookup_key (same_bytes k) m.entries → Some h ≡ held m k → h.live ≡ 0 → r ≡ slice_get m.entries j → IfSome r (λ p. Updates same_bytes m n p.0 None) → Places (held m) (held n) k (busy (held m k))
+pub idle_taken : {S : Type 0} (m n : IndexMap (List ℕ) Holding S) (k y : List ℕ) (i j : ℕ) (h : Holding) (r : Option (List ℕ × Holding)) → slice_get m.entries i ≡ Some (y, h) → i ≡ j → Some y ≡ lookup_key (same_bytes k) m.entries → Some h ≡ holdings_in m k → h.live ≡ 0 → r ≡ slice_get m.entries j → IfSome r (λ p. Updates same_bytes m n p.0 None) → Places (holdings_in m) (holdings_in n) k (busy (holdings_in m k))
 idle_taken m n k y i j h r at places key value none taken updates =
     let there : r ≡ Some (y, h) = taken ∙ ap (slice_get m.entries) (sym places) ∙ at in
     let out : Updates same_bytes m n y None = subst (λ (o : Option (List ℕ × Holding)). IfSome o (λ p. Updates same_bytes m n p.0 None)) there updates in
-    let gone : busy (held m k) ≡ None = ap busy (sym value) ∙ ap (λ (b : Bool). cond b None (Some h)) (eq-eqb h.live 0 none) in
+    let gone : busy (holdings_in m k) ≡ None = ap busy (sym value) ∙ ap (λ (b : Bool). cond b None (Some h)) (eq-eqb h.live 0 none) in
     λ q. out.0 q
-    ∙ ap (λ (x : List ℕ). cond (same_bytes x q) None (held m q)) (found_key k m.entries y (sym key))
-    ∙ ap (λ (o : Option Holding). cond (same_bytes k q) o (held m q)) (sym gone)
+    ∙ ap (λ (x : List ℕ). cond (same_bytes x q) None (holdings_in m q)) (found_key k m.entries y (sym key))
+    ∙ ap (λ (o : Option Holding). cond (same_bytes k q) o (holdings_in m q)) (sym gone)
 
 -- a key is taken out of the map by its place
-pub taken_there : {S : Type 0} (m n : IndexMap (List ℕ) Holding S) (k : List ℕ) (i : ℕ) (r : Option (List ℕ × Holding)) → (s : HeldAt m k i) → r ≡ slice_get m.entries i → IfSome r (λ p. Updates same_bytes m n p.0 None) → Places (held m) (held n) k None
+pub taken_there : {S : Type 0} (m n : IndexMap (List ℕ) Holding S) (k : List ℕ) (i : ℕ) (r : Option (List ℕ × Holding)) → (s : HeldAt m k i) → r ≡ slice_get m.entries i → IfSome r (λ p. Updates same_bytes m n p.0 None) → Places (holdings_in m) (holdings_in n) k None
 taken_there m n k i r s taken updates = (subst (λ (o : Option (List ℕ × Holding)). IfSome o (λ p. Updates same_bytes m n p.0 None)) (taken ∙ s.entry) updates).0

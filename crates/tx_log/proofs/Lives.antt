@@ -3,7 +3,7 @@ use Rattle.std.proofs.Common.{◌≡◌, ℕ, Bool, true, false, cond, eqb, ◌&
 use Rattle.std.proofs.lemmas.List.{append-nil}
 use Rattle.rec_types.specs.Kept.{Kept, is_own, newest_or, newest_live, undone_or, undone}
 use Rattle.tx_log.proofs.Chains.{same_number}
-use Rattle.tx_log.specs.Log.{tx_of_record, is_change, noted, kept_by, kept_of, stepped, stack}
+use Rattle.tx_log.specs.Log.{tx_of_record, tells_change, noted, kept_by, kept_of, stepped, stack}
 use Rattle.tx_log.specs.declared.log_record.LogRecord.{LogRecord}
 
 -- the first of a list, where there is one
@@ -126,4 +126,4 @@ stack_case false t r rs step false own =
 -- a transaction's stack, noted as changes, is its live changes
 pub stack_is_lives : (t : ℕ) (rs : List LogRecord) → map noted (stack t rs) ≡ lives t (kept_of rs)
 stack_is_lives t [] = refl
-stack_is_lives t (r ∷ rs) = stack_case (is_change r) t r rs (stack_is_lives t rs) (eqb (tx_of_record r) t) refl
+stack_is_lives t (r ∷ rs) = stack_case (tells_change r) t r rs (stack_is_lives t rs) (eqb (tx_of_record r) t) refl

@@ -4,8 +4,8 @@ use Rattle.std.proofs.lemmas.List.{reverse-append, reverse-reverse, length-rever
 use Rattle.std.proofs.Math.Seq.{drop-cons}
 use Rattle.tx_log.proofs.Chains.{chain-skip, chain-found, numbered-part}
 use Rattle.std.specs.List.{slice_get}
-use Rattle.tx_log.specs.Log.{lsn_of, prev_of, leads_to, led, is_change, chain, record_at, IsNumbered}
-use Rattle.tx_log.specs.Transactions.{place_in}
+use Rattle.tx_log.specs.Log.{lsn_of, prev_of, leads_to, led, tells_change, chain, record_at, IsNumbered}
+use Rattle.tx_log.specs.Transactions.{place_of_savepoint}
 use Rattle.tx_log.specs.declared.log_record.LogRecord.{LogRecord}
 
 -- a list with one more behind, turned
@@ -30,7 +30,7 @@ pub record IsRecordAt (log : List LogRecord) (at : ℕ) (r : LogRecord) : Type 0
   pub lsn : lsn_of r ≡ at
   pub prev : prev_of r < at
   pub leads : leads_to r < at
-  pub chain_is : chain (reverse log) at ≡ led (is_change r) r (chain (reverse log) (leads_to r))
+  pub chain_is : chain (reverse log) at ≡ led (tells_change r) r (chain (reverse log) (leads_to r))
 
 -- what is read at a place of a numbered log is the record of that number
 pub record_is_at : (log : List LogRecord) (at : ℕ) (d r : LogRecord) → IsNumbered (reverse log) → 0 < at → at ≤ length log → get_or log (at - 1) d ≡ r → IsRecordAt log at r
@@ -42,7 +42,7 @@ record_is_at log at d r is some within read =
     let there = subst IsNumbered cut is in
     let part = numbered-part newer r older there in
     let many : length older ≡ n = length-reverse (take n log) ∙ length-take-le n log (omega arith) in
-    let P : List LogRecord → Type 0 = λ rs. chain rs at ≡ led (is_change r) r (chain rs (leads_to r)) in
+    let P : List LogRecord → Type 0 = λ rs. chain rs at ≡ led (tells_change r) r (chain rs (leads_to r)) in
     record {
       lsn = omega (arith, part.0, many);
       prev = omega (arith, part.1, many);
@@ -56,13 +56,13 @@ chain-zero [] is = refl
 chain-zero (r ∷ rs) is = chain-skip r rs 0 is.0 (omega arith) ∙ chain-zero rs is.3
 
 -- the place of savepoint n + 1 is the list's element n
-pub place_in-read : (xs : List ℕ) (n d : ℕ) → n < length xs → place_in xs (suc n) ≡ get_or xs n d
+pub place_in-read : (xs : List ℕ) (n d : ℕ) → n < length xs → place_of_savepoint xs (suc n) ≡ get_or xs n d
 place_in-read [] n d h = absurd (omega arith)
 place_in-read (x ∷ xs) zero d h = refl
 place_in-read (x ∷ xs) (suc n) d h = place_in-read xs n d (omega arith)
 
 -- the number of a savepoint, read at its place
-pub place_in-at : (xs : List ℕ) (n d : ℕ) → 0 < n → n ≤ length xs → place_in xs n ≡ get_or xs (n - 1) d
+pub place_in-at : (xs : List ℕ) (n d : ℕ) → 0 < n → n ≤ length xs → place_of_savepoint xs n ≡ get_or xs (n - 1) d
 place_in-at xs zero d some h = absurd (omega arith)
 place_in-at xs (suc n) d some h =
     let e : suc n - 1 ≡ n = omega arith in
@@ -83,8 +83,8 @@ found_stands : (k : Bool) (r : LogRecord) (rs : List LogRecord) (u : LogRecord) 
 found_stands true r rs u us step e = record { newer = []; older = rs; is = let same : r ≡ u = cc in ap (λ x. x ∷ rs) same }
 found_stands false r rs u us step e = further r rs u (step (leads_to r) e)
 
-stands_case : (r : LogRecord) (rs : List LogRecord) (n : ℕ) (u : LogRecord) (us : List LogRecord) → ((m : ℕ) → chain rs m ≡ u ∷ us → Stands rs u) → (b : Bool) → cond b (led (is_change r) r (chain rs (leads_to r))) (chain rs n) ≡ u ∷ us → Stands (r ∷ rs) u
-stands_case r rs n u us step true e = found_stands (is_change r) r rs u us step e
+stands_case : (r : LogRecord) (rs : List LogRecord) (n : ℕ) (u : LogRecord) (us : List LogRecord) → ((m : ℕ) → chain rs m ≡ u ∷ us → Stands rs u) → (b : Bool) → cond b (led (tells_change r) r (chain rs (leads_to r))) (chain rs n) ≡ u ∷ us → Stands (r ∷ rs) u
+stands_case r rs n u us step true e = found_stands (tells_change r) r rs u us step e
 stands_case r rs n u us step false e = further r rs u (step n e)
 
 -- the head of a chain does

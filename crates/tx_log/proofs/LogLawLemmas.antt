@@ -9,7 +9,7 @@ use Rattle.tx_log.proofs.Counts.{newest_of_stack, log_len_is}
 use Rattle.tx_log.proofs.Lives.{dead, eqb_sym, and_false}
 use Rattle.tx_log.proofs.LogIndex.{reverse_cons}
 use Rattle.tx_log.proofs.PlaceLemmas.{Rises, kept_rises}
-use Rattle.tx_log.specs.Log.{lsn_of, prev_of, tx_of_record, key_of, back_in, leads_to, is_change, last_of, noted, kept_by, kept_of, stepped, stack, IsNumbered, Undoes, TellsOf, IsWritten, AllWritten}
+use Rattle.tx_log.specs.Log.{lsn_of, prev_of, tx_of_record, key_of_record, back_in, leads_to, tells_change, last_of, noted, kept_by, kept_of, stepped, stack, IsNumbered, Undoes, UndoesUnless, IsWritten, AllWritten}
 use Rattle.tx_log.specs.LogLaws.{follows, undoes, change_told, IsChained}
 use Rattle.tx_log.specs.declared.log_record.LogRecord.{LogRecord}
 
@@ -71,7 +71,7 @@ up_to_last (r ∷ rs) t is = last_case (eqb (tx_of_record r) t) refl (up_to_last
 
 -- an update among the records is known by its transaction and its prev
 abbrev IsKnown : LogRecord → LogRecord → Type 0
-IsKnown w u = is_change u ≡ true → ((eqb (tx_of_record u) (tx_of_record w)) && (eqb (prev_of u) (prev_of w))) ≡ eqb (lsn_of u) (lsn_of w)
+IsKnown w u = tells_change u ≡ true → ((eqb (tx_of_record u) (tx_of_record w)) && (eqb (prev_of u) (prev_of w))) ≡ eqb (lsn_of u) (lsn_of w)
 
 -- older records than the update
 known_older : (w u : LogRecord) → IsBelow (prev_of w) u ⊎ (eqb (tx_of_record u) (tx_of_record w) ≡ false) → lsn_of u < lsn_of w → IsKnown w u
@@ -145,76 +145,76 @@ none_any p [] e = refl
 none_any p (r ∷ rs) e = none_any_case p r rs (none_any p rs) (p r) e
 
 -- the update alone, among those with its number
-alone : (rs : List LogRecord) (w : LogRecord) → IsNumbered rs → is_change w ≡ true → In w rs → filter (λ u. is_change u && eqb (lsn_of u) (lsn_of w)) rs ≡ w ∷ []
+alone : (rs : List LogRecord) (w : LogRecord) → IsNumbered rs → tells_change w ≡ true → In w rs → filter (λ u. tells_change u && eqb (lsn_of u) (lsn_of w)) rs ≡ w ∷ []
 alone [] w is up h = absurd h
 alone (r ∷ rs) w is up (inl h) =
     let lsn_is : lsn_of r ≡ lsn_of w = ap lsn_of h in
-    let here : (is_change r && eqb (lsn_of r) (lsn_of w)) ≡ true = ap (λ x. x && eqb (lsn_of r) (lsn_of w)) (ap is_change h ∙ up) ∙ eq-eqb (lsn_of r) (lsn_of w) lsn_is in
-    let p : LogRecord → Bool = λ u. is_change u && eqb (lsn_of u) (lsn_of w) in
-    let rest : filter p rs ≡ [] = filter_none p rs (each_more (IsBelow (length rs)) (λ u. p u ≡ false) (λ u b. ap (λ x. is_change u && x) (unequal (lsn_of u) (lsn_of w) (let low = b.within in omega (arith, is.0))) ∙ and_false (is_change u)) rs (all_below rs is.3)) in
+    let here : (tells_change r && eqb (lsn_of r) (lsn_of w)) ≡ true = ap (λ x. x && eqb (lsn_of r) (lsn_of w)) (ap tells_change h ∙ up) ∙ eq-eqb (lsn_of r) (lsn_of w) lsn_is in
+    let p : LogRecord → Bool = λ u. tells_change u && eqb (lsn_of u) (lsn_of w) in
+    let rest : filter p rs ≡ [] = filter_none p rs (each_more (IsBelow (length rs)) (λ u. p u ≡ false) (λ u b. ap (λ x. tells_change u && x) (unequal (lsn_of u) (lsn_of w) (let low = b.within in omega (arith, is.0))) ∙ and_false (tells_change u)) rs (all_below rs is.3)) in
     ap (λ (b : Bool). cond b (r ∷ filter p rs) (filter p rs)) here ∙ ap (λ xs. r ∷ xs) rest ∙ ap (λ x. x ∷ []) h
 alone (r ∷ rs) w is up (inr h) =
     let low = (each_in (IsBelow (length rs)) w rs (all_below rs is.3) h).within in
-    let p : LogRecord → Bool = λ u. is_change u && eqb (lsn_of u) (lsn_of w) in
-    let passed : p r ≡ false = ap (λ x. is_change r && x) (differs (lsn_of r) (lsn_of w) (omega (arith, is.0))) ∙ and_false (is_change r) in
+    let p : LogRecord → Bool = λ u. tells_change u && eqb (lsn_of u) (lsn_of w) in
+    let passed : p r ≡ false = ap (λ x. tells_change r && x) (differs (lsn_of r) (lsn_of w) (omega (arith, is.0))) ∙ and_false (tells_change r) in
     ap (λ (b : Bool). cond b (r ∷ filter p rs) (filter p rs)) passed ∙ alone rs w is.3 up h
 
 filter_same : (p q : LogRecord → Bool) (rs : List LogRecord) → Each (λ u. p u ≡ q u) rs → filter p rs ≡ filter q rs
 filter_same p q [] e = refl
 filter_same p q (r ∷ rs) e = ap (λ (b : Bool). cond b (r ∷ filter p rs) (filter p rs)) e.0 ∙ ap (λ xs. cond (q r) (r ∷ xs) xs) (filter_same p q rs e.1)
 
-follows_is : (w u : LogRecord) → IsKnown w u → follows (tx_of_record w) (prev_of w) u ≡ (is_change u && eqb (lsn_of u) (lsn_of w))
-follows_is w u known = follows_case (is_change u) refl
+follows_is : (w u : LogRecord) → IsKnown w u → follows (tx_of_record w) (prev_of w) u ≡ (tells_change u && eqb (lsn_of u) (lsn_of w))
+follows_is w u known = follows_case (tells_change u) refl
   where
-    follows_case : (b : Bool) → is_change u ≡ b → (b && (eqb (tx_of_record u) (tx_of_record w) && eqb (prev_of u) (prev_of w))) ≡ (b && eqb (lsn_of u) (lsn_of w))
+    follows_case : (b : Bool) → tells_change u ≡ b → (b && (eqb (tx_of_record u) (tx_of_record w) && eqb (prev_of u) (prev_of w))) ≡ (b && eqb (lsn_of u) (lsn_of w))
     follows_case true e = known e
     follows_case false e = refl
 
-followed : (rs : List LogRecord) (w : LogRecord) → IsNumbered rs → AllWritten rs → is_change w ≡ true → In w rs → filter (follows (tx_of_record w) (prev_of w)) rs ≡ w ∷ []
+followed : (rs : List LogRecord) (w : LogRecord) → IsNumbered rs → AllWritten rs → tells_change w ≡ true → In w rs → filter (follows (tx_of_record w) (prev_of w)) rs ≡ w ∷ []
 followed rs w is written up h =
-    filter_same (follows (tx_of_record w) (prev_of w)) (λ u. is_change u && eqb (lsn_of u) (lsn_of w)) rs (each_more (IsKnown w) (λ u. follows (tx_of_record w) (prev_of w) u ≡ (is_change u && eqb (lsn_of u) (lsn_of w))) (follows_is w) rs (only_one rs w is written h))
+    filter_same (follows (tx_of_record w) (prev_of w)) (λ u. tells_change u && eqb (lsn_of u) (lsn_of w)) rs (each_more (IsKnown w) (λ u. follows (tx_of_record w) (prev_of w) u ≡ (tells_change u && eqb (lsn_of u) (lsn_of w))) (follows_is w) rs (only_one rs w is written h))
     ∙ alone rs w is up h
 
 -- ---- the head of a stack
 
 record IsTop (t : ℕ) (rs : List LogRecord) (w : LogRecord) : Type 0 where
   member : In w rs
-  update : is_change w ≡ true
+  update : tells_change w ≡ true
   own : tx_of_record w ≡ t
 
-stack_own_case : (k : Bool) (t : ℕ) (r : LogRecord) (rs : List LogRecord) → is_change r ≡ k → Each (λ u. (is_change u ≡ true) × (tx_of_record u ≡ t) × In u rs) (stack t rs) → (b : Bool) → eqb (tx_of_record r) t ≡ b → Each (λ u. (is_change u ≡ true) × (tx_of_record u ≡ t) × In u (r ∷ rs)) (cond b (stepped k r (stack t rs)) (stack t rs))
+stack_own_case : (k : Bool) (t : ℕ) (r : LogRecord) (rs : List LogRecord) → tells_change r ≡ k → Each (λ u. (tells_change u ≡ true) × (tx_of_record u ≡ t) × In u rs) (stack t rs) → (b : Bool) → eqb (tx_of_record r) t ≡ b → Each (λ u. (tells_change u ≡ true) × (tx_of_record u ≡ t) × In u (r ∷ rs)) (cond b (stepped k r (stack t rs)) (stack t rs))
 stack_own_case true t r rs kind step true e =
-    ((kind, same_number (tx_of_record r) t e, inl refl), each_more (λ u. (is_change u ≡ true) × (tx_of_record u ≡ t) × In u rs) (λ u. (is_change u ≡ true) × (tx_of_record u ≡ t) × In u (r ∷ rs)) (λ u h. (h.0, h.1, inr h.2)) (stack t rs) step)
+    ((kind, same_number (tx_of_record r) t e, inl refl), each_more (λ u. (tells_change u ≡ true) × (tx_of_record u ≡ t) × In u rs) (λ u. (tells_change u ≡ true) × (tx_of_record u ≡ t) × In u (r ∷ rs)) (λ u h. (h.0, h.1, inr h.2)) (stack t rs) step)
 stack_own_case false t r rs kind step true e =
-    dropped (stack t rs) (each_more (λ u. (is_change u ≡ true) × (tx_of_record u ≡ t) × In u rs) (λ u. (is_change u ≡ true) × (tx_of_record u ≡ t) × In u (r ∷ rs)) (λ u h. (h.0, h.1, inr h.2)) (stack t rs) step)
+    dropped (stack t rs) (each_more (λ u. (tells_change u ≡ true) × (tx_of_record u ≡ t) × In u rs) (λ u. (tells_change u ≡ true) × (tx_of_record u ≡ t) × In u (r ∷ rs)) (λ u h. (h.0, h.1, inr h.2)) (stack t rs) step)
   where
-    dropped : (us : List LogRecord) → Each (λ u. (is_change u ≡ true) × (tx_of_record u ≡ t) × In u (r ∷ rs)) us → Each (λ u. (is_change u ≡ true) × (tx_of_record u ≡ t) × In u (r ∷ rs)) (drop 1 us)
+    dropped : (us : List LogRecord) → Each (λ u. (tells_change u ≡ true) × (tx_of_record u ≡ t) × In u (r ∷ rs)) us → Each (λ u. (tells_change u ≡ true) × (tx_of_record u ≡ t) × In u (r ∷ rs)) (drop 1 us)
     dropped [] h = tt
     dropped (u ∷ us) h = h.1
-stack_own_case k t r rs kind step false e = each_more (λ u. (is_change u ≡ true) × (tx_of_record u ≡ t) × In u rs) (λ u. (is_change u ≡ true) × (tx_of_record u ≡ t) × In u (r ∷ rs)) (λ u h. (h.0, h.1, inr h.2)) (stack t rs) step
+stack_own_case k t r rs kind step false e = each_more (λ u. (tells_change u ≡ true) × (tx_of_record u ≡ t) × In u rs) (λ u. (tells_change u ≡ true) × (tx_of_record u ≡ t) × In u (r ∷ rs)) (λ u h. (h.0, h.1, inr h.2)) (stack t rs) step
 
-stack_own : (t : ℕ) (rs : List LogRecord) → Each (λ u. (is_change u ≡ true) × (tx_of_record u ≡ t) × In u rs) (stack t rs)
+stack_own : (t : ℕ) (rs : List LogRecord) → Each (λ u. (tells_change u ≡ true) × (tx_of_record u ≡ t) × In u rs) (stack t rs)
 stack_own t [] = tt
-stack_own t (r ∷ rs) = stack_own_case (is_change r) t r rs refl (stack_own t rs) (eqb (tx_of_record r) t) refl
+stack_own t (r ∷ rs) = stack_own_case (tells_change r) t r rs refl (stack_own t rs) (eqb (tx_of_record r) t) refl
 
 -- what a compensation names
 record IsUndone (rs : List LogRecord) (c w : LogRecord) : Type 0 where
   member : In w rs
-  update : is_change w ≡ true
+  update : tells_change w ≡ true
   own : tx_of_record w ≡ tx_of_record c
   leads : leads_to c ≡ prev_of w
-  key : key_of c ≡ key_of w
+  key : key_of_record c ≡ key_of_record w
   back : back_in c ≡ back_in w
   rest : List LogRecord
   top : stack (tx_of_record c) rs ≡ w ∷ rest
 
-undone_of_stack : (rs us : List LogRecord) (c : LogRecord) → stack (tx_of_record c) rs ≡ us → Each (λ u. (is_change u ≡ true) × (tx_of_record u ≡ tx_of_record c) × In u rs) us → Undoes c us → (w : LogRecord) × IsUndone rs c w
+undone_of_stack : (rs us : List LogRecord) (c : LogRecord) → stack (tx_of_record c) rs ≡ us → Each (λ u. (tells_change u ≡ true) × (tx_of_record u ≡ tx_of_record c) × In u rs) us → Undoes c us → (w : LogRecord) × IsUndone rs c w
 undone_of_stack rs [] c e h u = absurd u
 undone_of_stack rs (w ∷ us) c e h u = (w, record { member = h.0.2; update = h.0.0; own = h.0.1; leads = u.0; key = u.1; back = u.2; rest = us; top = e })
 
-undone_by : (c : LogRecord) (rs : List LogRecord) → IsWritten c rs → is_change c ≡ false → (w : LogRecord) × IsUndone rs c w
+undone_by : (c : LogRecord) (rs : List LogRecord) → IsWritten c rs → tells_change c ≡ false → (w : LogRecord) × IsUndone rs c w
 undone_by c rs w down =
-    undone_of_stack rs (stack (tx_of_record c) rs) c refl (stack_own (tx_of_record c) rs) (subst (λ k. TellsOf k c (stack (tx_of_record c) rs)) down w.1)
+    undone_of_stack rs (stack (tx_of_record c) rs) c refl (stack_own (tx_of_record c) rs) (subst (λ k. UndoesUnless k c (stack (tx_of_record c) rs)) down w.1)
 
 -- ---- the changes are the updates, live where no compensation names them
 
@@ -300,15 +300,15 @@ not_named r rs is prev =
   where
     named_case : (c : LogRecord) → IsBelow (length rs) c → (eqb (tx_of_record c) (tx_of_record r) ≡ true → lsn_of c ≤ last_of (tx_of_record r) rs) → (b : Bool) → eqb (tx_of_record r) (tx_of_record c) ≡ b → undoes r c ≡ false
     named_case c below last true e =
-        ap (λ x. not (is_change c) && (eqb (tx_of_record r) (tx_of_record c) && x)) (differs (prev_of r) (leads_to c) (let low = last (eqb_sym (tx_of_record c) (tx_of_record r) ∙ e) in let p = below.leads in omega arith))
-        ∙ ap (λ x. not (is_change c) && x) (and_false (eqb (tx_of_record r) (tx_of_record c))) ∙ and_false (not (is_change c))
-    named_case c below last false e = ap (λ x. not (is_change c) && (x && eqb (prev_of r) (leads_to c))) e ∙ and_false (not (is_change c))
+        ap (λ x. not (tells_change c) && (eqb (tx_of_record r) (tx_of_record c) && x)) (differs (prev_of r) (leads_to c) (let low = last (eqb_sym (tx_of_record c) (tx_of_record r) ∙ e) in let p = below.leads in omega arith))
+        ∙ ap (λ x. not (tells_change c) && x) (and_false (eqb (tx_of_record r) (tx_of_record c))) ∙ and_false (not (tells_change c))
+    named_case c below last false e = ap (λ x. not (tells_change c) && (x && eqb (prev_of r) (leads_to c))) e ∙ and_false (not (tells_change c))
 
-map_updates : (f g : LogRecord → Kept) (rs : List LogRecord) → Each (λ u. is_change u ≡ true → f u ≡ g u) rs → map f (filter is_change rs) ≡ map g (filter is_change rs)
+map_updates : (f g : LogRecord → Kept) (rs : List LogRecord) → Each (λ u. tells_change u ≡ true → f u ≡ g u) rs → map f (filter tells_change rs) ≡ map g (filter tells_change rs)
 map_updates f g [] e = refl
-map_updates f g (r ∷ rs) e = updates_case (is_change r) refl (map_updates f g rs e.1)
+map_updates f g (r ∷ rs) e = updates_case (tells_change r) refl (map_updates f g rs e.1)
   where
-    updates_case : (b : Bool) → is_change r ≡ b → map f (filter is_change rs) ≡ map g (filter is_change rs) → map f (cond b (r ∷ filter is_change rs) (filter is_change rs)) ≡ map g (cond b (r ∷ filter is_change rs) (filter is_change rs))
+    updates_case : (b : Bool) → tells_change r ≡ b → map f (filter tells_change rs) ≡ map g (filter tells_change rs) → map f (cond b (r ∷ filter tells_change rs) (filter tells_change rs)) ≡ map g (cond b (r ∷ filter tells_change rs) (filter tells_change rs))
     updates_case true up rest = λ i. e.0 up i ∷ rest i
     updates_case false up rest = rest
 
@@ -323,11 +323,11 @@ not_or false true = refl
 not_or false false = refl
 
 abbrev ToldBy : List LogRecord → Type 0
-ToldBy rs = kept_of rs ≡ reverse (map (change_told rs) (filter is_change rs))
+ToldBy rs = kept_of rs ≡ reverse (map (change_told rs) (filter tells_change rs))
 
-told_step : (k : Bool) (r : LogRecord) (rs : List LogRecord) → is_change r ≡ k → IsNumbered (r ∷ rs) → AllWritten (r ∷ rs) → ToldBy rs → kept_by k r (kept_of rs) ≡ reverse (map (change_told (r ∷ rs)) (cond k (r ∷ filter is_change rs) (filter is_change rs)))
+told_step : (k : Bool) (r : LogRecord) (rs : List LogRecord) → tells_change r ≡ k → IsNumbered (r ∷ rs) → AllWritten (r ∷ rs) → ToldBy rs → kept_by k r (kept_of rs) ≡ reverse (map (change_told (r ∷ rs)) (cond k (r ∷ filter tells_change rs) (filter tells_change rs)))
 told_step true r rs kind is written step =
-    let ups = filter is_change rs in
+    let ups = filter tells_change rs in
     let none : list_any (undoes r) rs ≡ false = any_none (undoes r) rs (not_named r rs is.3 written.0.0) in
     let here : noted r ≡ change_told (r ∷ rs) r = ap (λ (b : Bool). record (noted r) { live = not b }) (sym (ap (λ b. (not b && ((eqb (tx_of_record r) (tx_of_record r)) && (eqb (prev_of r) (leads_to r)))) || list_any (undoes r) rs) kind ∙ none)) in
     let unnamed : (v : LogRecord) → change_told rs v ≡ change_told (r ∷ rs) v = λ v. ap (λ (b : Bool). record (noted v) { live = not b }) (sym (ap (λ b. (not b && ((eqb (tx_of_record v) (tx_of_record r)) && (eqb (prev_of v) (leads_to r)))) || list_any (undoes v) rs) kind)) in
@@ -337,16 +337,16 @@ told_step true r rs kind is written step =
     ∙ sym (reverse_cons (change_told (r ∷ rs) r) (map (change_told (r ∷ rs)) ups))
 told_step false r rs kind is written step =
     let t = tx_of_record r in
-    let ups = filter is_change rs in
+    let ups = filter tells_change rs in
     let named = undone_by r rs written.0 kind in
     let w = named.0 in
     let u = named.1 in
     let newest = newest_of_stack t rs u.rest w u.top in
-    let one : (v : LogRecord) → IsKnown w v → is_change v ≡ true → mark (lsn_of w) (change_told rs v) ≡ change_told (r ∷ rs) v = λ v known up.
+    let one : (v : LogRecord) → IsKnown w v → tells_change v ≡ true → mark (lsn_of w) (change_told rs v) ≡ change_told (r ∷ rs) v = λ v known up.
     let same : (eqb (tx_of_record v) t && eqb (prev_of v) (leads_to r)) ≡ eqb (lsn_of v) (lsn_of w) =
     ap (λ t. eqb (tx_of_record v) t && eqb (prev_of v) (leads_to r)) (sym u.own) ∙ ap (λ n. eqb (tx_of_record v) (tx_of_record w) && eqb (prev_of v) n) u.leads ∙ known up in
     ap (λ (b : Bool). record (noted v) { live = b }) (not_or (eqb (lsn_of v) (lsn_of w)) (list_any (undoes v) rs) ∙ ap (λ x. not (x || list_any (undoes v) rs)) (sym same) ∙ sym (ap (λ b. not ((not b && (eqb (tx_of_record v) t && eqb (prev_of v) (leads_to r))) || list_any (undoes v) rs)) kind)) in
-    let all = map_updates (λ v. mark (lsn_of w) (change_told rs v)) (change_told (r ∷ rs)) rs (each_more (IsKnown w) (λ v. is_change v ≡ true → mark (lsn_of w) (change_told rs v) ≡ change_told (r ∷ rs) v) one rs (only_one rs w is.3 written.1 u.member)) in
+    let all = map_updates (λ v. mark (lsn_of w) (change_told rs v)) (change_told (r ∷ rs)) rs (each_more (IsKnown w) (λ v. tells_change v ≡ true → mark (lsn_of w) (change_told rs v) ≡ change_told (r ∷ rs) v) one rs (only_one rs w is.3 written.1 u.member)) in
     undone_marks t 0 (kept_of rs) (length rs) (noted w) (kept_rises rs is.3) newest
     ∙ ap (map (mark (lsn_of w))) step
     ∙ map_reverse (mark (lsn_of w)) (map (change_told rs) ups)
@@ -354,7 +354,7 @@ told_step false r rs kind is written step =
 
 told_by : (rs : List LogRecord) → IsNumbered rs → AllWritten rs → ToldBy rs
 told_by [] is written = refl
-told_by (r ∷ rs) is written = told_step (is_change r) r rs refl is written (told_by rs is.3 written.1)
+told_by (r ∷ rs) is written = told_step (tells_change r) r rs refl is written (told_by rs is.3 written.1)
 
 -- ---- no update is compensated twice
 
@@ -370,11 +370,11 @@ kept_reverse : (P : Kept → Type 0) (xs : List Kept) → EachKept P xs → Each
 kept_reverse P [] e = tt
 kept_reverse P (x ∷ xs) e = subst (EachKept P) (sym (reverse_cons x xs)) (kept_append P (reverse xs) (x ∷ []) (kept_reverse P xs e.1) (e.0, tt))
 
-kept_updates : (P : Kept → Type 0) (f : LogRecord → Kept) (rs : List LogRecord) → Each (λ u. P (f u)) rs → EachKept P (map f (filter is_change rs))
+kept_updates : (P : Kept → Type 0) (f : LogRecord → Kept) (rs : List LogRecord) → Each (λ u. P (f u)) rs → EachKept P (map f (filter tells_change rs))
 kept_updates P f [] e = tt
-kept_updates P f (r ∷ rs) e = updates_case (is_change r) (kept_updates P f rs e.1)
+kept_updates P f (r ∷ rs) e = updates_case (tells_change r) (kept_updates P f rs e.1)
   where
-    updates_case : (b : Bool) → EachKept P (map f (filter is_change rs)) → EachKept P (map f (cond b (r ∷ filter is_change rs) (filter is_change rs)))
+    updates_case : (b : Bool) → EachKept P (map f (filter tells_change rs)) → EachKept P (map f (cond b (r ∷ filter tells_change rs) (filter tells_change rs)))
     updates_case true rest = (e.0, rest)
     updates_case false rest = rest
 
@@ -392,7 +392,7 @@ fresh_undo : (c : LogRecord) (rs : List LogRecord) (w : LogRecord) → IsNumbere
 fresh_undo c rs w is written u =
     let P : Kept → Type 0 = λ k. k.lsn ≡ lsn_of w → k.live ≡ not (list_any (undoes w) rs) in
     let each : Each (λ v. P (change_told rs v)) rs = each_more (λ v. lsn_of v ≡ lsn_of w → v ≡ w) (λ v. P (change_told rs v)) (λ v h same. ap (λ x. not (list_any (undoes x) rs)) (h same)) rs (known_number rs w is u.member) in
-    let told : EachKept P (kept_of rs) = subst (EachKept P) (sym (told_by rs is written)) (kept_reverse P (map (change_told rs) (filter is_change rs)) (kept_updates P (change_told rs) rs each)) in
+    let told : EachKept P (kept_of rs) = subst (EachKept P) (sym (told_by rs is written)) (kept_reverse P (map (change_told rs) (filter tells_change rs)) (kept_updates P (change_told rs) rs each)) in
     let live : true ≡ not (list_any (undoes w) rs) = newest_each P (tx_of_record c) (kept_of rs) (noted w) told (newest_of_stack (tx_of_record c) rs u.rest w u.top) refl in
     not_true (list_any (undoes w) rs) live
   where
@@ -401,20 +401,20 @@ fresh_undo c rs w is written u =
     not_true false h = refl
 
 record SameUndo (w c : LogRecord) : Type 0 where
-  compensates : is_change c ≡ false
+  compensates : tells_change c ≡ false
   tx : tx_of_record w ≡ tx_of_record c
   prev : prev_of w ≡ leads_to c
 
 undo_parts : (w c : LogRecord) → undoes w c ≡ true → SameUndo w c
-undo_parts w c e = parts_case (is_change c) refl (eqb (tx_of_record w) (tx_of_record c)) refl (eqb (prev_of w) (leads_to c)) refl e
+undo_parts w c e = parts_case (tells_change c) refl (eqb (tx_of_record w) (tx_of_record c)) refl (eqb (prev_of w) (leads_to c)) refl e
   where
-    parts_case : (a : Bool) → is_change c ≡ a → (b : Bool) → eqb (tx_of_record w) (tx_of_record c) ≡ b → (d : Bool) → eqb (prev_of w) (leads_to c) ≡ d → (not a && (b && d)) ≡ true → SameUndo w c
+    parts_case : (a : Bool) → tells_change c ≡ a → (b : Bool) → eqb (tx_of_record w) (tx_of_record c) ≡ b → (d : Bool) → eqb (prev_of w) (leads_to c) ≡ d → (not a && (b && d)) ≡ true → SameUndo w c
     parts_case false f true g true h e = record { compensates = f; tx = same_number (tx_of_record w) (tx_of_record c) g; prev = same_number (prev_of w) (leads_to c) h }
     parts_case false f true g false h e = absurd (cc)
     parts_case false f false g d h e = absurd (cc)
     parts_case true f b g d h e = absurd (cc)
 
-undone_before : (w c : LogRecord) (rs : List LogRecord) → IsNumbered rs → AllWritten rs → IsWritten c rs → is_change w ≡ true → In w rs → undoes w c ≡ true → filter (undoes w) rs ≡ []
+undone_before : (w c : LogRecord) (rs : List LogRecord) → IsNumbered rs → AllWritten rs → IsWritten c rs → tells_change w ≡ true → In w rs → undoes w c ≡ true → filter (undoes w) rs ≡ []
 undone_before w c rs is written own up member e =
     let parts = undo_parts w c e in
     let named = undone_by c rs own parts.compensates in
@@ -431,14 +431,14 @@ once_case : (w r : LogRecord) (rs : List LogRecord) → length (filter (undoes w
 once_case w r rs step true h = let none = ap length (h refl) in omega arith
 once_case w r rs step false h = step
 
-update_no_undo : (w r : LogRecord) → is_change r ≡ true → undoes w r ≡ false
+update_no_undo : (w r : LogRecord) → tells_change r ≡ true → undoes w r ≡ false
 update_no_undo w r up = ap (λ x. not x && ((eqb (tx_of_record w) (tx_of_record r)) && (eqb (prev_of w) (leads_to r)))) up
 
-undone_once : (rs : List LogRecord) (w : LogRecord) → IsNumbered rs → AllWritten rs → is_change w ≡ true → In w rs → length (filter (undoes w) rs) ≤ 1
+undone_once : (rs : List LogRecord) (w : LogRecord) → IsNumbered rs → AllWritten rs → tells_change w ≡ true → In w rs → length (filter (undoes w) rs) ≤ 1
 undone_once [] w is written up h = absurd h
 undone_once (r ∷ rs) w is written up (inl h) =
     let none : filter (undoes r) rs ≡ [] = filter_none (undoes r) rs (not_named r rs is.3 (written_prev r rs written.0)) in
-    let own : filter (undoes r) (r ∷ rs) ≡ [] = ap (λ (b : Bool). cond b (r ∷ filter (undoes r) rs) (filter (undoes r) rs)) (update_no_undo r r (ap is_change h ∙ up)) ∙ none in
+    let own : filter (undoes r) (r ∷ rs) ≡ [] = ap (λ (b : Bool). cond b (r ∷ filter (undoes r) rs) (filter (undoes r) rs)) (update_no_undo r r (ap tells_change h ∙ up)) ∙ none in
     let P : LogRecord → Type 0 = λ x. length (filter (undoes x) (r ∷ rs)) ≤ 1 in
     subst P h (let zero_is = ap length own in omega arith)
 undone_once (r ∷ rs) w is written up (inr h) =
@@ -485,8 +485,8 @@ is_chained records is written = record {
       omega arith);
   told =
       told_by (reverse records) is written
-      ∙ sym (map_reverse (change_told (reverse records)) (filter is_change (reverse records)))
-      ∙ ap (map (change_told (reverse records))) (sym (filter_turned is_change records))
-      ∙ ap (λ (f : LogRecord → Kept). map f (filter is_change records)) (λ i u. change_turned records u i);
+      ∙ sym (map_reverse (change_told (reverse records)) (filter tells_change (reverse records)))
+      ∙ ap (map (change_told (reverse records))) (sym (filter_turned tells_change records))
+      ∙ ap (λ (f : LogRecord → Kept). map f (filter tells_change records)) (λ i u. change_turned records u i);
   whole = log_len_is (reverse records) written ∙ length-reverse records;
 }

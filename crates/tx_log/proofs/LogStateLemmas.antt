@@ -11,8 +11,8 @@ use Rattle.rec_types.specs.declared.transaction.TxId.{TxId}
 use Rattle.tx_log.proofs.LogIndex.{reverse-push}
 use Rattle.tx_log.proofs.LogStepLemmas.{IsChangeOf, IsBackOf}
 use Rattle.tx_log.specs.Finds.{Txs, finding}
-use Rattle.tx_log.specs.Log.{lsn_of, key_of, back_in, change_record, back_record, kept_by, noted, last_of, record_at, kept_of, AllWritten}
-use Rattle.tx_log.specs.LogFields.{IsKept, HasRoom}
+use Rattle.tx_log.specs.Log.{lsn_of, key_of_record, back_in, change_record, back_record, kept_by, noted, last_of, record_at, kept_of, AllWritten}
+use Rattle.tx_log.specs.LogFields.{IsKept, HasUndoRoom}
 use Rattle.tx_log.specs.LogState.{LogState, update_in, undo_in, prev_in, compensations_of, compensations_in}
 use Rattle.tx_log.specs.Walks.{change_in}
 use Rattle.tx_log.specs.declared.undo_chain.LiveChange.{LiveChange}
@@ -77,9 +77,9 @@ compensate_state r records records_new es es_new begun limits room lsn prev tx k
 pub told_compensation : (s : LogState) (tx : TxId) (lsn prev : ℕ) (change : LiveChange) (u : LogRecord) → lsn ≡ length s.records + 1 → prev ≡ last_of tx.0 (reverse s.records) → undo_in s tx.0 ≡ Some (noted u) → change_in u ≡ change → record_at s.records (lsn_of u) ≡ Some u → back_record lsn prev tx change.key (option_map (λ _. change.before) change.after) change.prev ∷ [] ≡ compensations_in s tx
 told_compensation s tx lsn prev change u lsn_is prev_is undo told found =
     (λ i. back_record (lsn_is i) (prev_is i) tx (sym told i).key (option_map (λ _. (sym told i).before) (sym told i).after) (sym told i).prev ∷ [])
-    ∙ ap (λ (o : Option LogRecord). back_record (length s.records + 1) (last_of tx.0 (reverse s.records)) tx (key_of u) (back_in u) (prev_in o) ∷ []) (sym found)
+    ∙ ap (λ (o : Option LogRecord). back_record (length s.records + 1) (last_of tx.0 (reverse s.records)) tx (key_of_record u) (back_in u) (prev_in o) ∷ []) (sym found)
     ∙ ap (compensations_of s tx) (sym undo)
 
 -- the room is used up
-pub unroomed : (length pending capacity : ℕ) (room_at : Option ℕ) → HasRoom length pending capacity room_at → HasRoom length pending capacity None
+pub unroomed : (length pending capacity : ℕ) (room_at : Option ℕ) → HasUndoRoom length pending capacity room_at → HasUndoRoom length pending capacity None
 unroomed length pending capacity room_at r = record { held = r.held; spare = tt }

@@ -15,7 +15,7 @@ use Rattle.tx_log.proofs.OwnerLemmas.{kept_at, HeldBy, owned-push, owned-undone,
 use Rattle.tx_log.proofs.WalkSteps.{IsStep}
 use Rattle.tx_log.specs.Finds.{Txs, PutsAt}
 use Rattle.tx_log.specs.Fits.{AllUpTo, RollbackUpTo, FitsTx, left_above}
-use Rattle.tx_log.specs.Log.{leads_to, lsn_of, prev_of, tx_of_record, key_of, old_of, new_of, back_in, is_change, change_record, back_record, noted, kept_by, kept_of, last_of, stepped, stack, chain, IsNumbered, Undoes, TellsOf, IsWritten, AllWritten}
+use Rattle.tx_log.specs.Log.{leads_to, lsn_of, prev_of, tx_of_record, key_of_record, old_of, new_of, back_in, tells_change, change_record, back_record, noted, kept_by, kept_of, last_of, stepped, stack, chain, IsNumbered, Undoes, UndoesUnless, IsWritten, AllWritten}
 use Rattle.tx_log.specs.Owners.{says, Standing, nothing, standing, stands_by}
 use Rattle.tx_log.specs.LogFields.{IsKept}
 use Rattle.tx_log.specs.OpenTxs.{opens}
@@ -45,9 +45,9 @@ grow_other r rs n t u e own other fits =
     let apart : eqb (tx_of_record r) u ≡ false = ap (λ k. eqb k u) own ∙ other in
     record {
       last = fits.last ∙ sym (ap (λ (b : Bool). cond b (lsn_of r) (last_of u rs)) apart);
-      live = fits.live ∙ sym (ap (λ (b : Bool). length (cond b (stepped (is_change r) r (stack u rs)) (stack u rs))) apart);
-      left = fits.left ∙ sym (ap (λ (b : Bool). left_above (cond b (stepped (is_change r) r (stack u rs)) (stack u rs)) e.rollback) apart);
-      absent_keys = fits.absent_keys ∙ sym (ap maps.len (absent_other (is_change r) r rs u apart));
+      live = fits.live ∙ sym (ap (λ (b : Bool). length (cond b (stepped (tells_change r) r (stack u rs)) (stack u rs))) apart);
+      left = fits.left ∙ sym (ap (λ (b : Bool). left_above (cond b (stepped (tells_change r) r (stack u rs)) (stack u rs)) e.rollback) apart);
+      absent_keys = fits.absent_keys ∙ sym (ap maps.len (absent_other (tells_change r) r rs u apart));
       saves = up_to_more (length rs) e.saves.items fits.saves;
       depth = fits.depth;
       rollback = rollback_more (length rs) e.rollback fits.rollback;
@@ -63,8 +63,8 @@ pub record IsOwnStep (r : LogRecord) (rs : List LogRecord) (t : ℕ) (e new : Op
   pub saves : new.saves.items ≡ e.saves.items
   pub mine : tx_of_record r ≡ t
   pub last : new.last ≡ lsn_of r
-  pub live : new.live ≡ length (stepped (is_change r) r (stack t rs))
-  pub left : new.left ≡ left_above (stepped (is_change r) r (stack t rs)) e.rollback
+  pub live : new.live ≡ length (stepped (tells_change r) r (stack t rs))
+  pub left : new.left ≡ left_above (stepped (tells_change r) r (stack t rs)) e.rollback
   pub absent_keys : new.absent ≡ maps.len (absent_in (only t) (kept_of (r ∷ rs)))
 
 -- what fits the transaction then
@@ -73,8 +73,8 @@ grow_own r rs n t e new fits step =
     let here : eqb (tx_of_record r) t ≡ true = eq-eqb (tx_of_record r) t step.mine in
     record {
       last = step.last ∙ sym (ap (λ (b : Bool). cond b (lsn_of r) (last_of t rs)) here);
-      live = step.live ∙ sym (ap (λ (b : Bool). length (cond b (stepped (is_change r) r (stack t rs)) (stack t rs))) here);
-      left = step.left ∙ (λ i. left_above (sym (ap (λ (b : Bool). cond b (stepped (is_change r) r (stack t rs)) (stack t rs)) here) i) (sym step.rollback i));
+      live = step.live ∙ sym (ap (λ (b : Bool). length (cond b (stepped (tells_change r) r (stack t rs)) (stack t rs))) here);
+      left = step.left ∙ (λ i. left_above (sym (ap (λ (b : Bool). cond b (stepped (tells_change r) r (stack t rs)) (stack t rs)) here) i) (sym step.rollback i));
       absent_keys = step.absent_keys;
       saves = subst (AllUpTo (suc (length rs))) (sym step.saves) (up_to_more (length rs) e.saves.items fits.saves);
       depth = subst (λ (ss : List ℕ). length ss ≤ most_savepoints) (sym step.saves) fits.depth;
@@ -134,12 +134,12 @@ absent_noted x [] = refl
 absent_noted x (u ∷ us) = λ i. cond (is_at x u) (is_out (says (new_of u) (any_noted x us i) (old_of u)) (absent_noted x us i)) (absent_noted x us i)
 
 -- how many keys are out after one change more
-pub len_noted : (r : LogRecord) (us : List LogRecord) (key : List ℕ) → key_of r ≡ key → maps.len (gone (map noted (r ∷ us))).out + cond (absent_at key us) 1 0 ≡ maps.len (gone (map noted us)).out + cond (absent_at key (r ∷ us)) 1 0
+pub len_noted : (r : LogRecord) (us : List LogRecord) (key : List ℕ) → key_of_record r ≡ key → maps.len (gone (map noted (r ∷ us))).out + cond (absent_at key us) 1 0 ≡ maps.len (gone (map noted us)).out + cond (absent_at key (r ∷ us)) 1 0
 len_noted r us key is =
     subst (λ (k : List ℕ). maps.len (gone (map noted (r ∷ us))).out + cond (absent_at k us) 1 0 ≡ maps.len (gone (map noted us)).out + cond (absent_at k (r ∷ us)) 1 0) is
-    ((λ i. maps.len (gone (map noted (r ∷ us))).out + cond (sym (absent_noted (key_of r) us) i) 1 0)
+    ((λ i. maps.len (gone (map noted (r ∷ us))).out + cond (sym (absent_noted (key_of_record r) us) i) 1 0)
     ∙ len-gone (map noted us) (noted r)
-    ∙ ap (λ (b : Bool). maps.len (gone (map noted us)).out + cond b 1 0) (absent_noted (key_of r) (r ∷ us)))
+    ∙ ap (λ (b : Bool). maps.len (gone (map noted us)).out + cond b 1 0) (absent_noted (key_of_record r) (r ∷ us)))
 
 -- the chain from a transaction's last record, found by its number
 pub chain_of : (rs : List LogRecord) (t at : ℕ) → IsNumbered rs → AllWritten rs → at ≡ last_of t rs → chain rs at ≡ stack t rs
@@ -163,12 +163,12 @@ one_goes one one_new count count_new was will d e f = omega arith
 
 -- the record tells of the change
 pub record IsChangeOf (r : LogRecord) (lsn prev : ℕ) (tx : TxId) (key : List ℕ) (before : Option (List ℕ)) (after : Option (Option (List ℕ))) : Type 0 where
-  pub up : is_change r ≡ true
+  pub up : tells_change r ≡ true
   pub lsn_is : lsn_of r ≡ lsn
   pub prev_is : prev_of r ≡ prev
   pub leads : leads_to r ≡ prev
   pub tx_is : tx_of_record r ≡ tx.0
-  pub key_is : key_of r ≡ key
+  pub key_is : key_of_record r ≡ key
   pub told : noted r ≡ record { lsn = lsn; tx = tx.0; key = key; before = before; after = after; live = true }
 
 -- as the one that is written for it does
@@ -223,14 +223,14 @@ accepted r lsn prev tx key before after rs txs txs_new begun pending gone_old pe
     let pending_push : count (is_pending (opens txs)) (cs ++ d ∷ []) ≡ count (is_pending (opens txs)) cs + cond (is_pending (opens txs) (change_of d)) 1 0 = count-push (is_pending (opens txs)) cs d in
     let is_one : ◌≡◌ {A = ℕ} (cond (is_pending (opens txs) (change_of d)) 1 0) 1 = ap (λ (b : Bool). cond b 1 0) (ap (opens txs) is.tx_is ∙ opened) in
     let begun_is = begun_of rs begun t txs kept.fit opened in
-    let stepped_is : stepped (is_change r) r (stack t rs) ≡ r ∷ stack t rs = ap (λ k. stepped k r (stack t rs)) is.up in
+    let stepped_is : stepped (tells_change r) r (stack t rs) ≡ r ∷ stack t rs = ap (λ k. stepped k r (stack t rs)) is.up in
     let own : IsOwnStep r rs t e new = record {
       rollback = a.rollback_same;
       saves = a.saves_same;
       mine = is.tx_is;
       last = a.last_new ∙ sym is.lsn_is;
       live = a.live_new ∙ (let n = fits.live in omega arith) ∙ sym (ap length stepped_is);
-      left = a.left_same ∙ fits.left ∙ ap (left_above (stack t rs)) a.calm ∙ sym (ap (left_above (stepped (is_change r) r (stack t rs))) a.calm);
+      left = a.left_same ∙ fits.left ∙ ap (left_above (stack t rs)) a.calm ∙ sym (ap (left_above (stepped (tells_change r) r (stack t rs))) a.calm);
       absent_keys = new_absent ∙ ap (λ xs. maps.len (absent_in (only t) xs)) (sym grows);
     } in
     grown r rs txs txs_new begun pending gone_old pending_new gone_new t e new kept found puts record {
@@ -238,7 +238,7 @@ accepted r lsn prev tx key before after rs txs txs_new begun pending gone_old pe
       lsn = is.lsn_is ∙ a.lsn_is;
       prev = is.prev_is ∙ prev_last;
       leads = (let n = is.leads in omega (arith, last_of-le rs t kept.numbered));
-      written = (own_prev, subst (λ k. TellsOf k r (stack (tx_of_record r) rs)) (sym is.up) tt);
+      written = (own_prev, subst (λ k. UndoesUnless k r (stack (tx_of_record r) rs)) (sym is.up) tt);
       all_begun = subst (AllBegun begun) (sym grows) (begun-push begun cs d kept.all_begun (let n = is.tx_is in let m = begun_is.1 in omega arith));
       owned = subst (IsOwned (opens txs)) (sym grows) owned;
       pending_is = a.pending_one ∙ (let p = kept.pending_is in omega arith) ∙ ap (count (is_pending (opens txs))) (sym grows);
@@ -249,12 +249,12 @@ accepted r lsn prev tx key before after rs txs txs_new begun pending gone_old pe
 
 -- the record tells of the taking back
 pub record IsBackOf (r : LogRecord) (lsn prev : ℕ) (tx : TxId) (key : List ℕ) (back : Option (Option (List ℕ))) (undo_next : ℕ) : Type 0 where
-  pub down : is_change r ≡ false
+  pub down : tells_change r ≡ false
   pub lsn_is : lsn_of r ≡ lsn
   pub prev_is : prev_of r ≡ prev
   pub leads : leads_to r ≡ undo_next
   pub tx_is : tx_of_record r ≡ tx.0
-  pub key_is : key_of r ≡ key
+  pub key_is : key_of_record r ≡ key
   pub back_is : back_in r ≡ back
 
 -- as the one that is written for it does
@@ -299,7 +299,7 @@ compensated r lsn prev tx change rs txs txs_new begun pending gone_old pending_n
     let shrinks : kept_of (r ∷ rs) ≡ undone t cs = ap (λ k. kept_by k r cs) is.down ∙ ap (λ v. undone v cs) is.tx_is in
     let left : lives t (undone t cs) ≡ map noted us = lives-undone t cs ∙ ap (drop 1) (sym (stack_is_lives t rs) ∙ ap (map noted) whole) in
     let now : lives t cs ≡ map noted (u ∷ us) = sym (stack_is_lives t rs) ∙ ap (map noted) whole in
-    let key_is : key_of u ≡ change.key = ap (λ (c : LiveChange). c.key) a.step.told in
+    let key_is : key_of_record u ≡ change.key = ap (λ (c : LiveChange). c.key) a.step.told in
     let old_gone : stands_by (only t) nothing cs ≡ gone (map noted (u ∷ us)) = absent_is_gone t cs ∙ ap gone now in
     let new_gone : stands_by (only t) nothing (undone t cs) ≡ gone (map noted us) = absent_is_gone t (undone t cs) ∙ ap gone left in
     let was : absent_at change.key (chain rs prev) ≡ absent_at change.key (u ∷ us) = ap (absent_at change.key) a.step.is in
@@ -319,7 +319,7 @@ compensated r lsn prev tx change rs txs txs_new begun pending gone_old pending_n
     total_goes _ _ _ _ _ _ gone_old gone_new (cond (absent_at change.key (chain rs prev)) 1 0) (cond (absent_at change.key (chain rs change.prev)) 1 0) all all_new others one kept.absent_is a.gone_one in
     let fewer = pending-undone (opens txs) t cs (noted u) opened newest in
     let live_is : e.live ≡ suc (length us) = fits.live ∙ ap length whole in
-    let stepped_is : stepped (is_change r) r (stack t rs) ≡ us = ap (λ k. stepped k r (stack t rs)) is.down ∙ ap (drop 1) whole in
+    let stepped_is : stepped (tells_change r) r (stack t rs) ≡ us = ap (λ k. stepped k r (stack t rs)) is.down ∙ ap (drop 1) whole in
     let live_left : new.live ≡ length us = (let n = a.live_new in omega arith) in
     let left_all : e.left ≡ left_above us e.rollback + 1 = fits.left ∙ ap (λ xs. left_above xs e.rollback) whole ∙ a.above in
     let left_left : new.left ≡ left_above us e.rollback = (let n = a.left_new in omega arith) in
@@ -337,7 +337,7 @@ compensated r lsn prev tx change rs txs txs_new begun pending gone_old pending_n
       lsn = is.lsn_is ∙ a.lsn_is;
       prev = is.prev_is ∙ prev_last;
       leads = (let n = is.leads in omega (arith, a.step.falls, a.step.within));
-      written = (own_prev, subst (λ k. TellsOf k r (stack (tx_of_record r) rs)) (sym is.down) (subst (λ v. Undoes r (stack v rs)) (sym is.tx_is) (undoes_step r rs lsn prev t tx change is a.step there)));
+      written = (own_prev, subst (λ k. UndoesUnless k r (stack (tx_of_record r) rs)) (sym is.down) (subst (λ v. Undoes r (stack v rs)) (sym is.tx_is) (undoes_step r rs lsn prev t tx change is a.step there)));
       all_begun = subst (AllBegun begun) (sym shrinks) (begun-undone begun t cs kept.all_begun);
       owned = subst (IsOwned (opens txs)) (sym shrinks) owned;
       pending_is = (let p = kept.pending_is in let n = a.pending_one in let q : pending_new ≡ count (is_pending (opens txs)) (undone t cs) = omega arith in q) ∙ ap (count (is_pending (opens txs))) (sym shrinks);

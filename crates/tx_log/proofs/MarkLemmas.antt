@@ -4,7 +4,7 @@ use Rattle.std.proofs.lemmas.List.{length-reverse, length-take-le, length-append
 use Rattle.std.proofs.lemmas.Option.{get_or_from_slice_get}
 use Rattle.tx_log.proofs.Chains.{chain-skip, chain-head, numbered-part, length-part}
 use Rattle.tx_log.proofs.LogIndex.{chain-zero, chain_stands, cut_at, record_of_chain, reverse-push}
-use Rattle.tx_log.specs.Log.{lsn_of, key_of, leads_to, led, is_change, chain, record_at, IsNumbered}
+use Rattle.tx_log.specs.Log.{lsn_of, key_of_record, leads_to, led, tells_change, chain, record_at, IsNumbered}
 use Rattle.tx_log.specs.Marks.{first_lsn, IsMarked, AreMarked}
 use Rattle.tx_log.specs.Walks.{newest_in, absent_at}
 use Rattle.tx_log.specs.declared.log_record.LogRecord.{LogRecord}
@@ -27,7 +27,7 @@ newest_at : (above : List Mark) (m : Mark) (below : List Mark) (rs : List LogRec
 newest_at [] m below [] is marked = absurd marked
 newest_at [] m below (r ∷ rs) is marked =
     let many = marked_length rs below marked.1 in
-    marked.0.newest ∙ sym (ap (λ (b : Bool). first_lsn (cond b (led (is_change r) r (chain rs (leads_to r))) (chain rs (length below + 1)))) (eq-eqb (lsn_of r) (length below + 1) (omega (arith, is.0, many))))
+    marked.0.newest ∙ sym (ap (λ (b : Bool). first_lsn (cond b (led (tells_change r) r (chain rs (leads_to r))) (chain rs (length below + 1)))) (eq-eqb (lsn_of r) (length below + 1) (omega (arith, is.0, many))))
 newest_at (x ∷ above) m below [] is marked = absurd marked
 newest_at (x ∷ above) m below (r ∷ rs) is marked =
     let many = marked_length rs (above ++ m ∷ below) marked.1 in
@@ -50,7 +50,7 @@ chain-below : (newer : List LogRecord) (r : LogRecord) (older : List LogRecord) 
 chain-below [] r older n is low = chain-skip r older n is.0 low
 chain-below (x ∷ newer) r older n is low = chain-skip x (newer ++ r ∷ older) n is.0 (omega (arith, length-part newer r older)) ∙ chain-below newer r older n is.3 low
 
-absent_at_mark : (above : List Mark) (m : Mark) (below : List Mark) (rs us : List LogRecord) (n : ℕ) (u : LogRecord) → IsNumbered rs → AreMarked rs (above ++ m ∷ below) → chain rs n ≡ u ∷ us → lsn_of u ≡ length below + 1 → m.absent ≡ absent_at (key_of u) us
+absent_at_mark : (above : List Mark) (m : Mark) (below : List Mark) (rs us : List LogRecord) (n : ℕ) (u : LogRecord) → IsNumbered rs → AreMarked rs (above ++ m ∷ below) → chain rs n ≡ u ∷ us → lsn_of u ≡ length below + 1 → m.absent ≡ absent_at (key_of_record u) us
 absent_at_mark above m below rs us n u is marked e at =
     let s = chain_stands rs n u us e in
     let whole = subst IsNumbered s.is is in
@@ -58,7 +58,7 @@ absent_at_mark above m below rs us n u is marked e at =
     let there : IsMarked u s.older m = marked_part s.newer u s.older above m below (omega (arith, part.0)) (subst (λ (xs : List LogRecord). AreMarked xs (above ++ m ∷ below)) s.is marked) in
     let down : chain s.older (leads_to u) ≡ us =
     sym (chain-below s.newer u s.older (leads_to u) whole part.2) ∙ ap (λ (xs : List LogRecord). chain xs (leads_to u)) (sym s.is) ∙ (chain-head rs n u us is e).tail in
-    there.absent ∙ ap (absent_at (key_of u)) down
+    there.absent ∙ ap (absent_at (key_of_record u)) down
 
 -- ---- a mark that is read at a number
 
@@ -79,7 +79,7 @@ pub none_read : (rs : List LogRecord) (from : ℕ) → IsNumbered rs → from �
 none_read rs from is zero_is = sym (ap (λ k. first_lsn (chain rs k)) zero_is ∙ ap first_lsn (chain-zero rs is))
 
 -- the mark of an update tells whether its key is out below it
-pub absent_read : (marks : List Mark) (rs us : List LogRecord) (n lsn : ℕ) (u : LogRecord) (m : Mark) → IsNumbered rs → AreMarked rs (reverse marks) → chain rs n ≡ u ∷ us → lsn_of u ≡ lsn → 0 < lsn → lsn ≤ length marks → slice_get marks (lsn - 1) ≡ Some m → m.absent ≡ absent_at (key_of u) us
+pub absent_read : (marks : List Mark) (rs us : List LogRecord) (n lsn : ℕ) (u : LogRecord) (m : Mark) → IsNumbered rs → AreMarked rs (reverse marks) → chain rs n ≡ u ∷ us → lsn_of u ≡ lsn → 0 < lsn → lsn ≤ length marks → slice_get marks (lsn - 1) ≡ Some m → m.absent ≡ absent_at (key_of_record u) us
 absent_read marks rs us n lsn u m is marked e at some within read =
     let k = lsn - 1 in
     let below = reverse (take k marks) in
@@ -116,7 +116,7 @@ got (y ∷ xs) (suc n) d x h = got xs n d x h
 pub record IsFirst (rs : List LogRecord) (from : ℕ) (r : LogRecord) : Type 0 where
   pub rest : List LogRecord
   pub is : chain rs from ≡ r ∷ rest
-  pub update : is_change r ≡ true
+  pub update : tells_change r ≡ true
 
 first_case : (log us : List LogRecord) (from at : ℕ) (d r : LogRecord) → IsNumbered (reverse log) → chain (reverse log) from ≡ us → at ≡ first_lsn us → 0 < at → get_or log (at - 1) d ≡ r → IsFirst (reverse log) from r
 first_case log [] from at d r is e first some read = absurd (omega (arith, first))
@@ -125,7 +125,7 @@ first_case log (u ∷ us) from at d r is e first some read =
     let number : lsn_of u ≡ suc (at - 1) = omega (arith, first) in
     let stands = ap (record_at log) (sym number) ∙ record_of_chain log from u us is e in
     let same : u ≡ r = sym (got log (at - 1) d u stands) ∙ read in
-    record { rest = us; is = e ∙ ap (λ x. x ∷ us) same; update = ap is_change (sym same) ∙ head.update }
+    record { rest = us; is = e ∙ ap (λ x. x ∷ us) same; update = ap tells_change (sym same) ∙ head.update }
 
 -- what is read at the head's number is the head
 pub first_there : (log : List LogRecord) (from at : ℕ) (d r : LogRecord) → IsNumbered (reverse log) → at ≡ first_lsn (chain (reverse log) from) → 0 < at → get_or log (at - 1) d ≡ r → IsFirst (reverse log) from r

@@ -14,7 +14,7 @@ use Rattle.tx_log.proofs.PlaceLemmas.{place-grows}
 use Rattle.tx_log.specs.Finds.{Txs, finding, PutsAt}
 use Rattle.tx_log.specs.Fits.{AllUpTo, RollbackUpTo, FitsTx, AllFit}
 use Rattle.tx_log.specs.Log.{lsn_of, kept_of}
-use Rattle.tx_log.specs.Places.{place_at}
+use Rattle.tx_log.specs.Places.{place_of_number}
 use Rattle.tx_log.specs.OpenTxs.{rollback_at, tx_at, txs_of, opens}
 use Rattle.tx_log.specs.Transactions.{Transactions, is_open}
 use Rattle.tx_log.specs.declared.log_record.LogRecord.{LogRecord}
@@ -83,7 +83,7 @@ txs-remove cs es fs t puts = same_txs _ _ (λ q.
 
 -- ---- a log that grows
 
-places_grow : (t : ℕ) (r : LogRecord) (rs : List LogRecord) (ss : List ℕ) → lsn_of r ≡ length rs + 1 → AllUpTo (length rs) ss → map (λ s. place_at t s (kept_of (r ∷ rs))) ss ≡ map (λ s. place_at t s (kept_of rs)) ss
+places_grow : (t : ℕ) (r : LogRecord) (rs : List LogRecord) (ss : List ℕ) → lsn_of r ≡ length rs + 1 → AllUpTo (length rs) ss → map (λ s. place_of_number t s (kept_of (r ∷ rs))) ss ≡ map (λ s. place_of_number t s (kept_of rs)) ss
 places_grow t r rs [] is up = refl
 places_grow t r rs (s ∷ ss) is up = λ i. place-grows t s r rs (omega (arith, up.0)) i ∷ places_grow t r rs ss is up.1 i
 
@@ -106,7 +106,7 @@ stay_case t q r rs n None new is fits true same some = absurd (let no : false �
 stay_case t q r rs n None new is fits false same some = refl
 stay_case t q r rs n (Some d) new is fits true same some =
     let alike = same refl in
-    (λ i. Some record { rollback = rollback_at q (kept_of (r ∷ rs)) (alike.0 i); places = map (λ s. place_at q s (kept_of (r ∷ rs))) (alike.1 i) })
+    (λ i. Some record { rollback = rollback_at q (kept_of (r ∷ rs)) (alike.0 i); places = map (λ s. place_of_number q s (kept_of (r ∷ rs))) (alike.1 i) })
     ∙ ap Some (tx_at-grows q r rs d is fits.rollback fits.saves)
 stay_case t q r rs n (Some d) new is fits false same some = ap Some (tx_at-grows q r rs d is fits.rollback fits.saves)
 

@@ -19,7 +19,7 @@ use Rattle.tx_log.specs.Fits.{left_above}
 use Rattle.tx_log.specs.Log.{kept_of, stack, chain, noted, IsNumbered}
 use Rattle.tx_log.specs.LogFields.{IsKept}
 use Rattle.tx_log.specs.LogState.{phase_of, undo_of, undo_step, rollback_phase}
-use Rattle.tx_log.specs.Places.{place_at}
+use Rattle.tx_log.specs.Places.{place_of_number}
 use Rattle.tx_log.specs.OpenTxs.{rollback_at, tx_at, txs_of}
 use Rattle.tx_log.specs.Transactions.{Tx, depth_of, live_in, left_in}
 use Rattle.tx_log.specs.Walks.{change_in, newest_in, is_after, step_to}
@@ -38,11 +38,11 @@ phase_case cs t (Some r) places = refl
 
 -- its phase
 pub phase_is : (cs : List Kept) (es : List (TxId × OpenTx)) (t : ℕ) (e : OpenTx) → finding es t ≡ Some e → option_map phase_of (maps.get (txs_of cs es) t) ≡ Some (rollback_phase e.rollback)
-phase_is cs es t e found = ap (option_map phase_of) (tx_of_entry cs es t e found) ∙ ap Some (phase_case cs t e.rollback (map (λ s. place_at t s cs) e.saves.items))
+phase_is cs es t e found = ap (option_map phase_of) (tx_of_entry cs es t e found) ∙ ap Some (phase_case cs t e.rollback (map (λ s. place_of_number t s cs) e.saves.items))
 
 -- how many savepoints it has
 pub depth_is : (cs : List Kept) (es : List (TxId × OpenTx)) (t : ℕ) (e : OpenTx) → finding es t ≡ Some e → depth_of (maps.get (txs_of cs es) t) ≡ length e.saves.items
-depth_is cs es t e found = ap depth_of (tx_of_entry cs es t e found) ∙ length-map e.saves.items (λ s. place_at t s cs)
+depth_is cs es t e found = ap depth_of (tx_of_entry cs es t e found) ∙ length-map e.saves.items (λ s. place_of_number t s cs)
 
 live_case : (us : List Kept) (n : ℕ) (b : Bool) (c : Kept) → n ≡ length us → cond b (suc n) n ≡ length (us ++ single b c)
 live_case us n true c e = omega (arith, length-append us (c ∷ []))
@@ -81,14 +81,14 @@ above_is rs t s = ap (filter (above s)) (sym (stack_is_lives t rs)) ∙ filter_n
 pub left_none : (cs : List Kept) (es : List (TxId × OpenTx)) (t : ℕ) (e : OpenTx) → finding es t ≡ Some e → e.rollback ≡ None → left_in (history_of cs) t (maps.get (txs_of cs es) t) ≡ 0
 left_none cs es t e found stage =
     ap (left_in (history_of cs) t) (tx_of_entry cs es t e found)
-    ∙ ap (λ (s : Option Rollback). left_in (history_of cs) t (Some (record { rollback = rollback_at t cs s; places = map (λ k. place_at t k cs) e.saves.items }))) stage
+    ∙ ap (λ (s : Option Rollback). left_in (history_of cs) t (Some (record { rollback = rollback_at t cs s; places = map (λ k. place_of_number t k cs) e.saves.items }))) stage
 
 -- how much a rollback has left
 pub left_is : (rs : List LogRecord) (es : List (TxId × OpenTx)) (begun pending gone t : ℕ) (r : Rollback) (e : OpenTx) → IsKept rs (finding es) begun pending gone → finding es t ≡ Some e → e.rollback ≡ Some r → left_in (history_of (kept_of rs)) t (maps.get (txs_of (kept_of rs) es) t) ≡ length (filter (is_after r.to) (stack t rs))
 left_is rs es begun pending gone t r e kept found stage =
     let cs = kept_of rs in
     ap (left_in (history_of cs) t) (tx_of_entry cs es t e found)
-    ∙ ap (λ (s : Option Rollback). left_in (history_of cs) t (Some (record { rollback = rollback_at t cs s; places = map (λ k. place_at t k cs) e.saves.items }))) stage
+    ∙ ap (λ (s : Option Rollback). left_in (history_of cs) t (Some (record { rollback = rollback_at t cs s; places = map (λ k. place_of_number t k cs) e.saves.items }))) stage
     ∙ live_from-place t r.to cs (length rs) (kept_rises rs kept.numbered)
     ∙ ap length (above_is rs t r.to)
     ∙ length-map (filter (is_after r.to) (stack t rs)) noted
@@ -122,14 +122,14 @@ left_read rs es begun pending gone t (Some e) kept is = left_stored rs es begun 
 pub undo_none : (cs : List Kept) (es : List (TxId × OpenTx)) (t : ℕ) (e : OpenTx) → finding es t ≡ Some e → e.rollback ≡ None → undo_of cs t (maps.get (txs_of cs es) t) ≡ None
 undo_none cs es t e found stage =
     ap (undo_of cs t) (tx_of_entry cs es t e found)
-    ∙ ap (λ (s : Option Rollback). undo_of cs t (Some (record { rollback = rollback_at t cs s; places = map (λ k. place_at t k cs) e.saves.items }))) stage
+    ∙ ap (λ (s : Option Rollback). undo_of cs t (Some (record { rollback = rollback_at t cs s; places = map (λ k. place_of_number t k cs) e.saves.items }))) stage
 
 -- what a rollback takes back next
 pub undo_is : (rs : List LogRecord) (es : List (TxId × OpenTx)) (begun pending gone t : ℕ) (r : Rollback) (e : OpenTx) → IsKept rs (finding es) begun pending gone → finding es t ≡ Some e → e.rollback ≡ Some r → undo_of (kept_of rs) t (maps.get (txs_of (kept_of rs) es) t) ≡ first (map noted (filter (is_after r.to) (stack t rs)))
 undo_is rs es begun pending gone t r e kept found stage =
     let cs = kept_of rs in
     ap (undo_of cs t) (tx_of_entry cs es t e found)
-    ∙ ap (λ (s : Option Rollback). undo_of cs t (Some (record { rollback = rollback_at t cs s; places = map (λ k. place_at t k cs) e.saves.items }))) stage
+    ∙ ap (λ (s : Option Rollback). undo_of cs t (Some (record { rollback = rollback_at t cs s; places = map (λ k. place_of_number t k cs) e.saves.items }))) stage
     ∙ newest_from-place t r.to cs (length rs) (kept_rises rs kept.numbered)
     ∙ ap first (above_is rs t r.to)
 

@@ -25,7 +25,7 @@ use Rattle.tx_log.proofs.OpenTxLemmas.{opens_is}
 use Rattle.tx_log.proofs.HoldingLemmas.{same_bytes-key}
 use Rattle.tx_log.proofs.KeyListLemmas.{changed_are_held}
 use Rattle.tx_log.specs.Finds.{finding}
-use Rattle.tx_log.specs.Log.{key_of, kept_of, stack, noted}
+use Rattle.tx_log.specs.Log.{key_of_record, kept_of, stack, noted}
 use Rattle.tx_log.specs.Holdings.{HoldsKey, same_bytes, IsHeld, AreHeld}
 use Rattle.tx_log.specs.Owners.{charged, keys_owned}
 use Rattle.tx_log.specs.OpenTxs.{txs_of, opens}
@@ -148,9 +148,9 @@ among_sorted ks ps q moved =
     (λ h. list_any-from_Contains laws q ks (Contains-permutation ps ks q (IsPermutation-sym ks ps moved) (Contains-from_dedup (pointwise eqb) ps q (Contains-from_any same_key-is q (dedup (pointwise eqb) ps) h))))
     (λ h. list_any-from_Contains laws q (dedup (pointwise eqb) ps) (Contains-dedup pointwise_equiv same_pointwise ps q (Contains-permutation ks ps q moved (Contains-from_any same_key-is q ks h))))
 
-keys_noted : (us : List LogRecord) → keys_in (map noted us) ≡ map key_of us
+keys_noted : (us : List LogRecord) → keys_in (map noted us) ≡ map key_of_record us
 keys_noted [] = refl
-keys_noted (u ∷ us) = ap (λ ks. key_of u ∷ ks) (keys_noted us)
+keys_noted (u ∷ us) = ap (λ ks. key_of_record u ∷ ks) (keys_noted us)
 
 same_among : (q : List ℕ) (ks : List (List ℕ)) → among q ks ≡ list_any (same_bytes q) ks
 same_among q ks = ap (λ (test : List ℕ → Bool). list_any test ks) (λ i y. sym (same_bytes-key q y) i)
@@ -160,9 +160,9 @@ pub owned_keys : (rs : List LogRecord) (es : List (TxId × OpenTx)) (holds : Hol
 owned_keys rs es holds t e ks ps out is found are moved up out_is =
     let cs = kept_of rs in
     let opened : opens (finding es) t ≡ true = ap is_some found in
-    let live_keys : keys_in (lives t cs) ≡ map key_of (stack t rs) = ap keys_in (sym (stack_is_lives t rs)) ∙ keys_noted (stack t rs) in
+    let live_keys : keys_in (lives t cs) ≡ map key_of_record (stack t rs) = ap keys_in (sym (stack_is_lives t rs)) ∙ keys_noted (stack t rs) in
     let same : (q : List ℕ) → among q (keys_in (lives t cs)) ≡ among q ks = λ q.
-    ap (among q) live_keys ∙ same_among q (map key_of (stack t rs)) ∙ changed_are_held rs (opens (finding es)) holds t is opened q ∙ sym (are q) ∙ sym (same_among q ks) in
+    ap (among q) live_keys ∙ same_among q (map key_of_record (stack t rs)) ∙ changed_are_held rs (opens (finding es)) holds t is opened q ∙ sym (are q) ∙ sym (same_among q ks) in
     let strict : IsStrictlySortedBy (slice_cmp nat_cmp) (dedup (pointwise eqb) ps) = IsStrictlySortedBy-dedup nat_list_cmp_total texts_ties ps up in
     let m = charged (owns t (opens (finding es))) (history_of cs) maps.empty in
     let has : (q : List ℕ) → maps.get m q ≡ told (among q (dedup (pointwise eqb) ps)) = λ q.

@@ -8,8 +8,8 @@ use Rattle.rec_types.specs.History.{live_from, own_count}
 use Rattle.rec_types.specs.Kept.{Kept, history_of, is_own, newest_or, newest_from, newest_live, undone_or, undone}
 use Rattle.tx_log.proofs.Chains.{last_of-le}
 use Rattle.tx_log.proofs.Lives.{first, single, lives}
-use Rattle.tx_log.specs.Log.{lsn_of, tx_of_record, is_change, noted, kept_by, kept_of, last_of, IsNumbered}
-use Rattle.tx_log.specs.Places.{place_at}
+use Rattle.tx_log.specs.Log.{lsn_of, tx_of_record, tells_change, noted, kept_by, kept_of, last_of, IsNumbered}
+use Rattle.tx_log.specs.Places.{place_of_number}
 use Rattle.tx_log.specs.declared.log_record.LogRecord.{LogRecord}
 
 -- the numbers of the changes rise, above low and up to high
@@ -44,9 +44,9 @@ rises_step false r cs high is rises = rises-more 0 (undone (tx_of_record r) cs) 
 pub kept_rises : (rs : List LogRecord) → IsNumbered rs → Rises 0 (kept_of rs) (length rs)
 kept_rises [] is = omega arith
 kept_rises (r ∷ rs) is =
-    let P : ℕ → Type 0 = λ n. Rises 0 (kept_by (is_change r) r (kept_of rs)) n in
+    let P : ℕ → Type 0 = λ n. Rises 0 (kept_by (tells_change r) r (kept_of rs)) n in
     let e : length rs + 1 ≡ suc (length rs) = omega arith in
-    subst P e (rises_step (is_change r) r (kept_of rs) (length rs) is.0 (kept_rises rs is.3))
+    subst P e (rises_step (tells_change r) r (kept_of rs) (length rs) is.0 (kept_rises rs is.3))
 
 -- ---- above a place
 
@@ -73,18 +73,18 @@ and_nothing : (b : Bool) → (b && false) ≡ false
 and_nothing true = refl
 and_nothing false = refl
 
-place_of_test : (t s : ℕ) (c : Kept) (cs : List Kept) (b : Bool) → ((eqb c.tx t) && leb c.lsn s) ≡ b → place_at t s (c ∷ cs) ≡ cond b (suc (place_at t s cs)) (place_at t s cs)
-place_of_test t s c cs b e = ap (λ (b : Bool). cond b (suc (place_at t s cs)) (place_at t s cs)) e
+place_of_test : (t s : ℕ) (c : Kept) (cs : List Kept) (b : Bool) → ((eqb c.tx t) && leb c.lsn s) ≡ b → place_of_number t s (c ∷ cs) ≡ cond b (suc (place_of_number t s cs)) (place_of_number t s cs)
+place_of_test t s c cs b e = ap (λ (b : Bool). cond b (suc (place_of_number t s cs)) (place_of_number t s cs)) e
 
 -- no change at most s
-pub place-none : (t s low : ℕ) (cs : List Kept) (high : ℕ) → Rises low cs high → s ≤ low → place_at t s cs ≡ 0
+pub place-none : (t s low : ℕ) (cs : List Kept) (high : ℕ) → Rises low cs high → s ≤ low → place_of_number t s cs ≡ 0
 place-none t s low [] high is h = refl
 place-none t s low (c ∷ cs) high is h =
     place_of_test t s c cs false (ap (λ b. eqb c.tx t && b) (not_below c.lsn s (omega (arith, is.0))) ∙ and_nothing (eqb c.tx t))
     ∙ place-none t s c.lsn cs high is.1 (omega (arith, is.0))
 
 -- number 0 is the beginning
-pub place-zero : (t : ℕ) (cs : List Kept) (high : ℕ) → Rises 0 cs high → place_at t 0 cs ≡ 0
+pub place-zero : (t : ℕ) (cs : List Kept) (high : ℕ) → Rises 0 cs high → place_of_number t 0 cs ≡ 0
 place-zero t cs high is = place-none t 0 0 cs high is (omega arith)
 
 -- a change of another transaction is in no place
@@ -113,8 +113,8 @@ abbrev above_list : ℕ → ℕ → List Kept → List Kept
 above_list t s cs = filter (above s) (lives t cs)
 
 record AtPlace (t s : ℕ) (cs : List Kept) : Type 0 where
-  counted : live_from (history_of cs) t (place_at t s cs) ≡ length (above_list t s cs)
-  newest : newest_from cs t (place_at t s cs) ≡ first (above_list t s cs)
+  counted : live_from (history_of cs) t (place_of_number t s cs) ≡ length (above_list t s cs)
+  newest : newest_from cs t (place_of_number t s cs) ≡ first (above_list t s cs)
 
 pub length_single : (us : List Kept) (b : Bool) (c : Kept) → length (us ++ single b c) ≡ cond b (suc (length us)) (length us)
 length_single us true c = omega (arith, length-append us (c ∷ []))
@@ -128,8 +128,8 @@ first_single (u ∷ us) b c = refl
 -- at a change of the transaction at most s
 low_case : (t s : ℕ) (c : Kept) (cs : List Kept) → AtPlace t s cs → eqb c.tx t ≡ true → leb c.lsn s ≡ true → AtPlace t s (c ∷ cs)
 low_case t s c cs at own low =
-    let p = place_at t s cs in
-    let here : place_at t s (c ∷ cs) ≡ suc p = place_of_test t s c cs true (ap (λ b. b && leb c.lsn s) own ∙ low) in
+    let p = place_of_number t s cs in
+    let here : place_of_number t s (c ∷ cs) ≡ suc p = place_of_test t s c cs true (ap (λ b. b && leb c.lsn s) own ∙ low) in
     let same : above_list t s (c ∷ cs) ≡ above_list t s cs = filter_single_low s c (is_own t c) (lives t cs) (λ _. not_over c.lsn s low) in
     record {
       counted = ap (live_from (history_of (c ∷ cs)) t) here ∙ ap (λ (b : Bool). cond b (live_from (history_of cs) t p) (live_from (history_of cs) t (suc p))) own ∙ at.counted ∙ ap length (sym same);
@@ -139,8 +139,8 @@ low_case t s c cs at own low =
 -- at a change of the transaction above s, after which all are
 high_case : (t s : ℕ) (c : Kept) (cs : List Kept) (high : ℕ) → Rises c.lsn cs high → AtPlace t s cs → leb c.lsn s ≡ false → AtPlace t s (c ∷ cs)
 high_case t s c cs high is at up =
-    let none : place_at t s cs ≡ 0 = place-none t s c.lsn cs high is (let h = above_is c.lsn s up in omega arith) in
-    let here : place_at t s (c ∷ cs) ≡ 0 = place_of_test t s c cs false (ap (λ b. eqb c.tx t && b) up ∙ and_nothing (eqb c.tx t)) ∙ none in
+    let none : place_of_number t s cs ≡ 0 = place-none t s c.lsn cs high is (let h = above_is c.lsn s up in omega arith) in
+    let here : place_of_number t s (c ∷ cs) ≡ 0 = place_of_test t s c cs false (ap (λ b. eqb c.tx t && b) up ∙ and_nothing (eqb c.tx t)) ∙ none in
     let more : above_list t s (c ∷ cs) ≡ above_list t s cs ++ single (is_own t c) c = filter_single_high s c (is_own t c) (lives t cs) (over c.lsn s up) in
     let counted_there : live_from (history_of cs) t 0 ≡ length (above_list t s cs) = ap (live_from (history_of cs) t) (sym none) ∙ at.counted in
     let newest_there : newest_from cs t 0 ≡ first (above_list t s cs) = ap (newest_from cs t) (sym none) ∙ at.newest in
@@ -152,11 +152,11 @@ high_case t s c cs high is at up =
 -- at a change of another transaction
 other_case : (t s : ℕ) (c : Kept) (cs : List Kept) → AtPlace t s cs → eqb c.tx t ≡ false → AtPlace t s (c ∷ cs)
 other_case t s c cs at other =
-    let here : place_at t s (c ∷ cs) ≡ place_at t s cs = place_of_test t s c cs false (ap (λ b. b && leb c.lsn s) other) in
+    let here : place_of_number t s (c ∷ cs) ≡ place_of_number t s cs = place_of_test t s c cs false (ap (λ b. b && leb c.lsn s) other) in
     let same : above_list t s (c ∷ cs) ≡ above_list t s cs = ap (λ b. filter (above s) (lives t cs ++ single (b && c.live) c)) other ∙ ap (filter (above s)) (append-nil (lives t cs)) in
     record {
-      counted = ap (live_from (history_of (c ∷ cs)) t) here ∙ live_from_other t c cs (place_at t s cs) other ∙ at.counted ∙ ap length (sym same);
-      newest = ap (newest_from (c ∷ cs) t) here ∙ newest_from_other t c cs (place_at t s cs) other ∙ at.newest ∙ ap first (sym same);
+      counted = ap (live_from (history_of (c ∷ cs)) t) here ∙ live_from_other t c cs (place_of_number t s cs) other ∙ at.counted ∙ ap length (sym same);
+      newest = ap (newest_from (c ∷ cs) t) here ∙ newest_from_other t c cs (place_of_number t s cs) other ∙ at.newest ∙ ap first (sym same);
     }
 
 case_at : (t s : ℕ) (c : Kept) (cs : List Kept) (high : ℕ) → Rises c.lsn cs high → AtPlace t s cs → (a : Bool) → eqb c.tx t ≡ a → (b : Bool) → leb c.lsn s ≡ b → AtPlace t s (c ∷ cs)
@@ -169,37 +169,37 @@ at_place t s low [] high is = record { counted = refl; newest = refl }
 at_place t s low (c ∷ cs) high is = case_at t s c cs high is.1 (at_place t s c.lsn cs high is.1) (eqb c.tx t) refl (leb c.lsn s) refl
 
 -- the live changes at a place or above are those with a number above that of the savepoint
-pub live_from-place : (t s : ℕ) (cs : List Kept) (high : ℕ) → Rises 0 cs high → live_from (history_of cs) t (place_at t s cs) ≡ length (filter (above s) (lives t cs))
+pub live_from-place : (t s : ℕ) (cs : List Kept) (high : ℕ) → Rises 0 cs high → live_from (history_of cs) t (place_of_number t s cs) ≡ length (filter (above s) (lives t cs))
 live_from-place t s cs high is = (at_place t s 0 cs high is).counted
 
 -- the newest change from a savepoint's place on is the newest one logged after its number
-pub newest_from-place : (t s : ℕ) (cs : List Kept) (high : ℕ) → Rises 0 cs high → newest_from cs t (place_at t s cs) ≡ first (filter (above s) (lives t cs))
+pub newest_from-place : (t s : ℕ) (cs : List Kept) (high : ℕ) → Rises 0 cs high → newest_from cs t (place_of_number t s cs) ≡ first (filter (above s) (lives t cs))
 newest_from-place t s cs high is = (at_place t s 0 cs high is).newest
 
 -- ---- a place stays
 
 -- a change logged later leaves the place
-pub place-push : (t s : ℕ) (cs : List Kept) (d : Kept) → s < d.lsn → place_at t s (cs ++ d ∷ []) ≡ place_at t s cs
+pub place-push : (t s : ℕ) (cs : List Kept) (d : Kept) → s < d.lsn → place_of_number t s (cs ++ d ∷ []) ≡ place_of_number t s cs
 place-push t s [] d h = place_of_test t s d [] false (ap (λ b. eqb d.tx t && b) (not_below d.lsn s h) ∙ and_nothing (eqb d.tx t))
 place-push t s (c ∷ cs) d h = ap (λ n. cond (eqb c.tx t && leb c.lsn s) (suc n) n) (place-push t s cs d h)
 
-place_undone_case : (t s : ℕ) (o : Option Kept) (b : Bool) (c : Kept) (cs done : List Kept) → place_at t s done ≡ place_at t s cs → place_at t s (undone_or o b c cs done) ≡ place_at t s (c ∷ cs)
+place_undone_case : (t s : ℕ) (o : Option Kept) (b : Bool) (c : Kept) (cs done : List Kept) → place_of_number t s done ≡ place_of_number t s cs → place_of_number t s (undone_or o b c cs done) ≡ place_of_number t s (c ∷ cs)
 place_undone_case t s (Some d) b c cs done e = ap (λ n. cond (eqb c.tx t && leb c.lsn s) (suc n) n) e
 place_undone_case t s None true c cs done e = refl
 place_undone_case t s None false c cs done e = refl
 
 -- so does taking one back
-pub place-undone : (t s u : ℕ) (cs : List Kept) → place_at t s (undone u cs) ≡ place_at t s cs
+pub place-undone : (t s u : ℕ) (cs : List Kept) → place_of_number t s (undone u cs) ≡ place_of_number t s cs
 place-undone t s u [] = refl
 place-undone t s u (c ∷ cs) = place_undone_case t s (newest_live u cs) (is_own u c) c cs (undone u cs) (place-undone t s u cs)
 
-place_step : (k : Bool) (t s : ℕ) (r : LogRecord) (cs : List Kept) → s < lsn_of r → place_at t s (kept_by k r cs) ≡ place_at t s cs
+place_step : (k : Bool) (t s : ℕ) (r : LogRecord) (cs : List Kept) → s < lsn_of r → place_of_number t s (kept_by k r cs) ≡ place_of_number t s cs
 place_step true t s r cs h = place-push t s cs (noted r) h
 place_step false t s r cs h = place-undone t s (tx_of_record r) cs
 
 -- and so does a newer record
-pub place-grows : (t s : ℕ) (r : LogRecord) (rs : List LogRecord) → s < lsn_of r → place_at t s (kept_of (r ∷ rs)) ≡ place_at t s (kept_of rs)
-place-grows t s r rs h = place_step (is_change r) t s r (kept_of rs) h
+pub place-grows : (t s : ℕ) (r : LogRecord) (rs : List LogRecord) → s < lsn_of r → place_of_number t s (kept_of (r ∷ rs)) ≡ place_of_number t s (kept_of rs)
+place-grows t s r rs h = place_step (tells_change r) t s r (kept_of rs) h
 
 -- ---- a new savepoint
 
@@ -229,22 +229,22 @@ own_step : (k : Bool) (t s : ℕ) (r : LogRecord) (cs : List Kept) → OwnUpTo t
 own_step true t s r cs is h = own_push t s cs (noted r) is h
 own_step false t s r cs is h = own_undone t s (tx_of_record r) cs is
 
-own_case : (t : ℕ) (r : LogRecord) (rs : List LogRecord) → last_of t rs ≤ lsn_of r → OwnUpTo t (last_of t rs) (kept_of rs) → (b : Bool) → eqb (tx_of_record r) t ≡ b → OwnUpTo t (cond b (lsn_of r) (last_of t rs)) (kept_by (is_change r) r (kept_of rs))
-own_case t r rs low is true own = own_step (is_change r) t (lsn_of r) r (kept_of rs) (own_more t (last_of t rs) (lsn_of r) (kept_of rs) low is) (λ _. omega arith)
-own_case t r rs low is false own = own_step (is_change r) t (last_of t rs) r (kept_of rs) is (λ other. absurd (let no : true ≡ false = sym other ∙ own in cc))
+own_case : (t : ℕ) (r : LogRecord) (rs : List LogRecord) → last_of t rs ≤ lsn_of r → OwnUpTo t (last_of t rs) (kept_of rs) → (b : Bool) → eqb (tx_of_record r) t ≡ b → OwnUpTo t (cond b (lsn_of r) (last_of t rs)) (kept_by (tells_change r) r (kept_of rs))
+own_case t r rs low is true own = own_step (tells_change r) t (lsn_of r) r (kept_of rs) (own_more t (last_of t rs) (lsn_of r) (kept_of rs) low is) (λ _. omega arith)
+own_case t r rs low is false own = own_step (tells_change r) t (last_of t rs) r (kept_of rs) is (λ other. absurd (let no : true ≡ false = sym other ∙ own in cc))
 
 own_up_to : (t : ℕ) (rs : List LogRecord) → IsNumbered rs → OwnUpTo t (last_of t rs) (kept_of rs)
 own_up_to t [] is = tt
 own_up_to t (r ∷ rs) is = own_case t r rs (omega (arith, last_of-le rs t is.3, is.0)) (own_up_to t rs is.3) (eqb (tx_of_record r) t) refl
 
-all_own : (t s : ℕ) (cs : List Kept) → OwnUpTo t s cs → place_at t s cs ≡ own_count (history_of cs) t
+all_own : (t s : ℕ) (cs : List Kept) → OwnUpTo t s cs → place_of_number t s cs ≡ own_count (history_of cs) t
 all_own t s [] is = refl
 all_own t s (c ∷ cs) is = own_here (eqb c.tx t) refl (all_own t s cs is.1)
   where
-    own_here : (b : Bool) → eqb c.tx t ≡ b → place_at t s cs ≡ own_count (history_of cs) t → cond (b && leb c.lsn s) (suc (place_at t s cs)) (place_at t s cs) ≡ cond b (suc (own_count (history_of cs) t)) (own_count (history_of cs) t)
-    own_here true own e = ap (λ (b : Bool). cond b (suc (place_at t s cs)) (place_at t s cs)) (is_below c.lsn s (is.0 own)) ∙ ap suc e
+    own_here : (b : Bool) → eqb c.tx t ≡ b → place_of_number t s cs ≡ own_count (history_of cs) t → cond (b && leb c.lsn s) (suc (place_of_number t s cs)) (place_of_number t s cs) ≡ cond b (suc (own_count (history_of cs) t)) (own_count (history_of cs) t)
+    own_here true own e = ap (λ (b : Bool). cond b (suc (place_of_number t s cs)) (place_of_number t s cs)) (is_below c.lsn s (is.0 own)) ∙ ap suc e
     own_here false own e = e
 
 -- at the newest record of the transaction the place is the count of its changes
-pub place-new : (t : ℕ) (rs : List LogRecord) → IsNumbered rs → place_at t (last_of t rs) (kept_of rs) ≡ own_count (history_of (kept_of rs)) t
+pub place-new : (t : ℕ) (rs : List LogRecord) → IsNumbered rs → place_of_number t (last_of t rs) (kept_of rs) ≡ own_count (history_of (kept_of rs)) t
 place-new t rs is = all_own t (last_of t rs) (kept_of rs) (own_up_to t rs is)

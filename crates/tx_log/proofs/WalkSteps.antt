@@ -3,7 +3,7 @@ use Rattle.std.proofs.Common.{◌≡◌, ℕ, ◌+◌, ◌<◌, ◌≤◌, Bool,
 use Rattle.std.proofs.lemmas.Bool.Decides.{nat_tests}
 use Rattle.std.specs.List.{filter}
 use Rattle.tx_log.proofs.Chains.{chain-head, leads_is_prev, same_number}
-use Rattle.tx_log.specs.Log.{lsn_of, prev_of, key_of, leads_to, led, is_change, chain, IsNumbered}
+use Rattle.tx_log.specs.Log.{lsn_of, prev_of, key_of_record, leads_to, led, tells_change, chain, IsNumbered}
 use Rattle.tx_log.specs.Walks.{change_in, link_of, newest_in, is_after}
 use Rattle.tx_log.specs.declared.log_record.LogRecord.{LogRecord}
 use Rattle.tx_log.specs.declared.undo_chain.LiveChange.{LiveChange}
@@ -19,7 +19,7 @@ pub record IsStep (rs : List LogRecord) (at : ℕ) (change : LiveChange) : Type 
   pub falls : change.prev < change.lsn
   pub low : change.lsn ≤ at
   pub within : change.lsn ≤ length rs
-  pub kind : is_change update ≡ true
+  pub kind : tells_change update ≡ true
 
 step_from : (rs us : List LogRecord) (at : ℕ) (change : LiveChange) → IsNumbered rs → chain rs at ≡ us → newest_in us ≡ Some change → IsStep rs at change
 step_from rs [] at change is e some = absurd (cc)
@@ -95,8 +95,8 @@ low_led true r rs n s is step at h =
     ap (λ (b : Bool). cond b (r ∷ us) us) (not_after s (lsn_of r) (omega arith)) ∙ step (leads_to r) (omega (arith, is.0, is.2))
 low_led false r rs n s is step at h = step (leads_to r) (omega (arith, is.0, is.2))
 
-low_case : (r : LogRecord) (rs : List LogRecord) (n s : ℕ) → IsNumbered (r ∷ rs) → ((m : ℕ) → m ≤ s → filter (is_after s) (chain rs m) ≡ []) → n ≤ s → (b : Bool) → eqb (lsn_of r) n ≡ b → filter (is_after s) (cond b (led (is_change r) r (chain rs (leads_to r))) (chain rs n)) ≡ []
-low_case r rs n s is step h true e = low_led (is_change r) r rs n s is step (same_number _ _ e) h
+low_case : (r : LogRecord) (rs : List LogRecord) (n s : ℕ) → IsNumbered (r ∷ rs) → ((m : ℕ) → m ≤ s → filter (is_after s) (chain rs m) ≡ []) → n ≤ s → (b : Bool) → eqb (lsn_of r) n ≡ b → filter (is_after s) (cond b (led (tells_change r) r (chain rs (leads_to r))) (chain rs n)) ≡ []
+low_case r rs n s is step h true e = low_led (tells_change r) r rs n s is step (same_number _ _ e) h
 low_case r rs n s is step h false e = step n h
 
 -- below a savepoint's number the chain has nothing to take back
@@ -140,16 +140,16 @@ pub chain-all : (rs : List LogRecord) (n : ℕ) → IsNumbered rs → filter (is
 chain-all [] n is = refl
 chain-all (r ∷ rs) n is = at (eqb (lsn_of r) n) (chain-all rs (leads_to r) is.3) (chain-all rs n is.3)
   where
-    at : (b : Bool) → filter (is_after 0) (chain rs (leads_to r)) ≡ chain rs (leads_to r) → filter (is_after 0) (chain rs n) ≡ chain rs n → filter (is_after 0) (cond b (led (is_change r) r (chain rs (leads_to r))) (chain rs n)) ≡ cond b (led (is_change r) r (chain rs (leads_to r))) (chain rs n)
-    at true below rest = all_led (is_change r) r (chain rs (leads_to r)) (omega (arith, is.0)) below
+    at : (b : Bool) → filter (is_after 0) (chain rs (leads_to r)) ≡ chain rs (leads_to r) → filter (is_after 0) (chain rs n) ≡ chain rs n → filter (is_after 0) (cond b (led (tells_change r) r (chain rs (leads_to r))) (chain rs n)) ≡ cond b (led (tells_change r) r (chain rs (leads_to r))) (chain rs n)
+    at true below rest = all_led (tells_change r) r (chain rs (leads_to r)) (omega (arith, is.0)) below
     at false below rest = rest
 
 -- the key of a step is the first of the chain's
-pub keys_on : (rs : List LogRecord) (at : ℕ) (change : LiveChange) → IsStep rs at change → map key_of (chain rs at) ≡ change.key ∷ map key_of (chain rs change.prev)
+pub keys_on : (rs : List LogRecord) (at : ℕ) (change : LiveChange) → IsStep rs at change → map key_of_record (chain rs at) ≡ change.key ∷ map key_of_record (chain rs change.prev)
 keys_on rs at change step =
-    ap (map key_of) step.is
-    ∙ ap (λ k. k ∷ map key_of step.rest) (ap (λ (c : LiveChange). c.key) step.told)
-    ∙ ap (λ us. change.key ∷ map key_of us) (sym step.tail)
+    ap (map key_of_record) step.is
+    ∙ ap (λ k. k ∷ map key_of_record step.rest) (ap (λ (c : LiveChange). c.key) step.told)
+    ∙ ap (λ us. change.key ∷ map key_of_record us) (sym step.tail)
 
 -- the newest change is above the place
 pub first_above : (rs : List LogRecord) (at s : ℕ) (change : LiveChange) → IsStep rs at change → s < change.lsn → Some change ≡ newest_in (filter (is_after s) (chain rs at))

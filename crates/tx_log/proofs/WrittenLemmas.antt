@@ -2,7 +2,7 @@
 use Rattle.std.proofs.Common.{◌≡◌, ℕ, Bool, true, false, cond, ◌&&◌, eqb, List, [], ◌∷◌, ◌++◌, map, reverse, Option, Some, None, refl, sym, ap, ◌∙◌}
 use Rattle.std.proofs.lemmas.List.{reverse-append}
 use Rattle.rec_types.specs.Kept.{Kept, change_of, history_of, is_own}
-use Rattle.tx_log.specs.Log.{noted, kept_of, stack, chain, key_of, new_of}
+use Rattle.tx_log.specs.Log.{noted, kept_of, stack, chain, key_of_record, new_of}
 use Rattle.tx_log.specs.Written.{writes_if, writes, own, written_by}
 use Rattle.tx_log.specs.declared.log_record.LogRecord.{LogRecord}
 use Rattle.tx_log.specs.declared.undo_chain.LiveChange.{LiveChange}
@@ -19,7 +19,7 @@ written_kept (c ∷ cs) = writes_if true c.key c.after (written_kept cs)
 
 noted_writes : (us : List LogRecord) → written_by us ≡ written_kept (map noted us)
 noted_writes [] = refl
-noted_writes (u ∷ us) = ap (writes_if true (key_of u) (new_of u)) (noted_writes us)
+noted_writes (u ∷ us) = ap (writes_if true (key_of_record u) (new_of u)) (noted_writes us)
 
 joined : (cs ds : List Kept) → written_kept (cs ++ ds) ≡ written_kept cs ++ written_kept ds
 joined [] ds = refl

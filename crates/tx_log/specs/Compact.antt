@@ -24,7 +24,7 @@ abbrev pub read : List ℕ → Span → Option (List ℕ)
 read bytes s = if nat_le s.len widest_record then Some (take s.len (drop s.at bytes)) else None
 
 -- the span of a record lies in so many bytes
-pub record IsWithin (many : ℕ) (s : Span) : Type 0 where
+pub record LiesIn (many : ℕ) (s : Span) : Type 0 where
   pub fits : s.len ≤ widest_record → s.at + s.len ≤ many
 
 -- where the bytes stand of what was before an entry, and of what an update wrote, and the entry's mark
@@ -58,19 +58,19 @@ is_claim_kind Claim = true
 is_claim_kind Unclaim = true
 
 -- the record that an entry stands for
-abbrev pub record_in : List ℕ → Entry → LogRecord
-record_in bytes e = told_as e.kind e.lsn e.prev e.tx e.key (read bytes (before_in e)) (read bytes (after_in e)) e.rest
+abbrev pub record_of_entry : List ℕ → Entry → LogRecord
+record_of_entry bytes e = told_as e.kind e.lsn e.prev e.tx e.key (read bytes (before_in e)) (read bytes (after_in e)) e.rest
 
 abbrev pub view_of : Inside → RecordsView
 view_of l = record {
-  items = map (record_in l.bytes.items) l.entries.items;
+  items = map (record_of_entry l.bytes.items) l.entries.items;
   marks = map mark_in l.entries.items;
   room = vec_capacity l.entries;
   free = vec_capacity l.bytes - vec_len l.bytes;
 }
 
 -- the spans of each entry lie in the bytes, of which there are no more than two records have for each entry
-pub record IsCompact (l : Inside) : Type 0 where
-  pub before : (i : ℕ) (e : Entry) → slice_get l.entries.items i ≡ Some e → IsWithin (vec_len l.bytes) (before_in e)
-  pub after : (i : ℕ) (e : Entry) → slice_get l.entries.items i ≡ Some e → IsWithin (vec_len l.bytes) (after_in e)
+pub record IsCompactLog (l : Inside) : Type 0 where
+  pub before : (i : ℕ) (e : Entry) → slice_get l.entries.items i ≡ Some e → LiesIn (vec_len l.bytes) (before_in e)
+  pub after : (i : ℕ) (e : Entry) → slice_get l.entries.items i ≡ Some e → LiesIn (vec_len l.bytes) (after_in e)
   pub few : vec_len l.bytes ≤ 2 * widest_record * vec_len l.entries

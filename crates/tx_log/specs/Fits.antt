@@ -3,7 +3,7 @@ use Rattle.std.specs.Prelude.{◌≡◌, ℕ, ◌<◌, ◌≤◌, ◌==◌, List
 use Rattle.std.specs.FinMap as maps
 use Rattle.std.specs.List.{filter}
 use Rattle.tx_log.specs.Log.{tx_of_record, last_of, stack, kept_of}
-use Rattle.tx_log.specs.Owners.{absent}
+use Rattle.tx_log.specs.Owners.{keys_absent}
 use Rattle.tx_log.specs.Finds.{Txs}
 use Rattle.tx_log.specs.Transactions.{most_savepoints}
 use Rattle.tx_log.specs.Walks.{is_after}
@@ -34,7 +34,7 @@ pub record FitsTx (rs : List LogRecord) (n t : ℕ) (e : OpenTx) : Type 0 where
   pub last : e.last ≡ last_of t rs
   pub live : e.live ≡ length (stack t rs)
   pub left : e.left ≡ left_above (stack t rs) e.rollback
-  pub absent_keys : e.absent ≡ maps.len (absent (λ u. u == t) (kept_of rs))
+  pub absent_keys : e.absent ≡ maps.len (keys_absent (λ u. u == t) (kept_of rs))
   pub saves : AllUpTo (length rs) e.saves.items
   pub depth : length e.saves.items ≤ most_savepoints
   pub rollback : RollbackUpTo (length rs) e.rollback

@@ -16,8 +16,8 @@ HoldsKey = List ℕ → Option Holding
 abbrev pub same_bytes : List ℕ → List ℕ → Bool
 same_bytes a b = pointwise ◌==◌ a b
 
-abbrev pub held : {S : Type 0} → IndexMap (List ℕ) Holding S → HoldsKey
-held m k = get same_bytes m k
+abbrev pub holdings_in : {S : Type 0} → IndexMap (List ℕ) Holding S → HoldsKey
+holdings_in m k = get same_bytes m k
 
 -- the same keys, but for one
 abbrev pub Places : HoldsKey → HoldsKey → List ℕ → Option Holding → Type 0
@@ -29,9 +29,9 @@ holder None = None
 holder (Some h) = if nat_lt 0 h.live then Some h.owner else None
 
 -- how many of the transaction's changes are live there, and whether the newest takes the key out
-abbrev pub live_of : ℕ → Option Holding → ℕ
-live_of t None = 0
-live_of t (Some h) = if h.owner.0 == t then h.live else 0
+abbrev pub live_held : ℕ → Option Holding → ℕ
+live_held t None = 0
+live_held t (Some h) = if h.owner.0 == t then h.live else 0
 
 abbrev pub absent_of : ℕ → Option Holding → Bool
 absent_of t None = false
@@ -40,11 +40,11 @@ absent_of t (Some h) = if h.owner.0 == t then h.absent else false
 -- the keys of the entries that the transaction owns
 abbrev pub owned_in : ℕ → List (List ℕ × Holding) → List (List ℕ)
 owned_in t [] = []
-owned_in t (e ∷ es) = if nat_lt 0 (live_of t (Some e.1)) then e.0 ∷ owned_in t es else owned_in t es
+owned_in t (e ∷ es) = if nat_lt 0 (live_held t (Some e.1)) then e.0 ∷ owned_in t es else owned_in t es
 
 -- the keys that the transaction holds, each once or more, and no others
 abbrev pub AreHeld : HoldsKey → ℕ → List (List ℕ) → Type 0
-AreHeld holds t ks = (q : List ℕ) → list_any (same_bytes q) ks ≡ nat_lt 0 (live_of t (holds q))
+AreHeld holds t ks = (q : List ℕ) → list_any (same_bytes q) ks ≡ nat_lt 0 (live_held t (holds q))
 
 -- how many live changes are at a key
 abbrev pub live_at : List ℕ → List LogRecord → ℕ
@@ -75,12 +75,12 @@ or_idle (Some h) = h
 pub record HeldAt {S : Type 0} (m : IndexMap (List ℕ) Holding S) (k : List ℕ) (i : ℕ) : Type 0 where
   pub hold : Holding
   pub entry : slice_get m.entries i ≡ Some (k, hold)
-  pub there : held m k ≡ Some hold
+  pub there : holdings_in m k ≡ Some hold
   pub unique : IsUnique same_bytes m
 
 -- what is kept is what the log says of the live changes of open transactions
 pub record IsHeld (rs : List LogRecord) (is_open : ℕ → Bool) (holds : HoldsKey) : Type 0 where
-  pub counted : (t : ℕ) (k : List ℕ) → is_open t ≡ true → live_at k (stack t rs) ≡ live_of t (holds k)
+  pub counted : (t : ℕ) (k : List ℕ) → is_open t ≡ true → live_at k (stack t rs) ≡ live_held t (holds k)
   pub marked : (t : ℕ) (k : List ℕ) → is_open t ≡ true → absent_at k (stack t rs) ≡ absent_of t (holds k)
   pub owned : (k : List ℕ) → IfSome (holds k) (λ h. 0 < h.live → is_open h.owner.0 ≡ true)
   pub idle_there : (k : List ℕ) → IfSome (holds k) (λ h. h.live ≡ 0 → h.absent ≡ false)

@@ -24,11 +24,11 @@ tx_of_record (Compensation lsn prev tx key restored undo_next) = tx.0
 tx_of_record (Claim lsn prev tx key seen) = tx.0
 tx_of_record (Unclaim lsn prev tx key undo_next) = tx.0
 
-abbrev pub key_of : LogRecord → List ℕ
-key_of (Update lsn prev tx key before after) = key
-key_of (Compensation lsn prev tx key restored undo_next) = key
-key_of (Claim lsn prev tx key seen) = key
-key_of (Unclaim lsn prev tx key undo_next) = key
+abbrev pub key_of_record : LogRecord → List ℕ
+key_of_record (Update lsn prev tx key before after) = key
+key_of_record (Compensation lsn prev tx key restored undo_next) = key
+key_of_record (Claim lsn prev tx key seen) = key
+key_of_record (Unclaim lsn prev tx key undo_next) = key
 
 -- what stood at the key before an update or a claim, and what stands there after a compensation
 abbrev pub old_of : LogRecord → Option (List ℕ)
@@ -56,11 +56,11 @@ leads_to (Claim lsn prev tx key seen) = prev
 leads_to (Unclaim lsn prev tx key undo_next) = undo_next
 
 -- the record tells of a change, and not of one that is taken back
-abbrev pub is_change : LogRecord → Bool
-is_change (Update lsn prev tx key before after) = true
-is_change (Compensation lsn prev tx key restored undo_next) = false
-is_change (Claim lsn prev tx key seen) = true
-is_change (Unclaim lsn prev tx key undo_next) = false
+abbrev pub tells_change : LogRecord → Bool
+tells_change (Update lsn prev tx key before after) = true
+tells_change (Compensation lsn prev tx key restored undo_next) = false
+tells_change (Claim lsn prev tx key seen) = true
+tells_change (Unclaim lsn prev tx key undo_next) = false
 
 -- the record of a change, and of one that is taken back
 abbrev pub change_record : ℕ → ℕ → TxId → List ℕ → Option (List ℕ) → Option (Option (List ℕ)) → LogRecord
@@ -83,7 +83,7 @@ last_of t (r ∷ rs) = if tx_of_record r == t then lsn_of r else last_of t rs
 
 -- the change that an update or a claim tells of
 abbrev pub noted : LogRecord → Kept
-noted r = record { lsn = lsn_of r; tx = tx_of_record r; key = key_of r; before = old_of r; after = new_of r; live = true }
+noted r = record { lsn = lsn_of r; tx = tx_of_record r; key = key_of_record r; before = old_of r; after = new_of r; live = true }
 
 -- what the record makes of the changes before it: it adds its own, or takes back the newest live one of its transaction
 abbrev pub kept_by : Bool → LogRecord → List Kept → List Kept
@@ -93,7 +93,7 @@ kept_by false r cs = undone (tx_of_record r) cs
 -- The changes, oldest first.
 abbrev pub kept_of : List LogRecord → List Kept
 kept_of [] = []
-kept_of (r ∷ rs) = kept_by (is_change r) r (kept_of rs)
+kept_of (r ∷ rs) = kept_by (tells_change r) r (kept_of rs)
 
 abbrev pub stepped : Bool → LogRecord → List LogRecord → List LogRecord
 stepped true r us = r ∷ us
@@ -102,7 +102,7 @@ stepped false r us = drop 1 us
 -- the updates and claims of the transaction that aren't taken back, newest first
 abbrev pub stack : ℕ → List LogRecord → List LogRecord
 stack t [] = []
-stack t (r ∷ rs) = if tx_of_record r == t then stepped (is_change r) r (stack t rs) else stack t rs
+stack t (r ∷ rs) = if tx_of_record r == t then stepped (tells_change r) r (stack t rs) else stack t rs
 
 abbrev pub led : Bool → LogRecord → List LogRecord → List LogRecord
 led true r us = r ∷ us
@@ -111,7 +111,7 @@ led false r us = us
 -- the updates and claims that are met on the way down from the record with the number
 abbrev pub chain : List LogRecord → ℕ → List LogRecord
 chain [] n = []
-chain (r ∷ rs) n = if lsn_of r == n then led (is_change r) r (chain rs (leads_to r)) else chain rs n
+chain (r ∷ rs) n = if lsn_of r == n then led (tells_change r) r (chain rs (leads_to r)) else chain rs n
 
 -- the records are numbered from 1, and point below themselves
 abbrev pub IsNumbered : List LogRecord → Type 0
@@ -121,15 +121,15 @@ IsNumbered (r ∷ rs) = (lsn_of r ≡ length rs + 1) × (prev_of r ≤ length rs
 -- what a compensation or an unclaim tells of the newest change that isn't taken back
 abbrev pub Undoes : LogRecord → List LogRecord → Type 0
 Undoes c [] = ⊥
-Undoes c (u ∷ us) = (leads_to c ≡ prev_of u) × (key_of c ≡ key_of u) × (back_in c ≡ back_in u)
+Undoes c (u ∷ us) = (leads_to c ≡ prev_of u) × (key_of_record c ≡ key_of_record u) × (back_in c ≡ back_in u)
 
-abbrev pub TellsOf : Bool → LogRecord → List LogRecord → Type 0
-TellsOf true r us = Unit {0}
-TellsOf false r us = Undoes r us
+abbrev pub UndoesUnless : Bool → LogRecord → List LogRecord → Type 0
+UndoesUnless true r us = Unit {0}
+UndoesUnless false r us = Undoes r us
 
 -- what a record tells of those before it
 abbrev pub IsWritten : LogRecord → List LogRecord → Type 0
-IsWritten r rs = (prev_of r ≡ last_of (tx_of_record r) rs) × TellsOf (is_change r) r (stack (tx_of_record r) rs)
+IsWritten r rs = (prev_of r ≡ last_of (tx_of_record r) rs) × UndoesUnless (tells_change r) r (stack (tx_of_record r) rs)
 
 abbrev pub AllWritten : List LogRecord → Type 0
 AllWritten [] = Unit {0}

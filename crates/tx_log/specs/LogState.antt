@@ -9,7 +9,7 @@ use Rattle.rec_types.specs.declared.transaction.TxId.{TxId}
 use Rattle.tx_log.specs.Log.{prev_of, record_at, last_of, change_record, back_record}
 use Rattle.tx_log.specs.LogCode.{coded_log_record}
 use Rattle.tx_log.specs.declared.log_record.LogRecord.{LogRecord}
-use Rattle.tx_log.specs.Transactions.{Transactions, Tx, coded_transactions, is_open, place_in, most_savepoints}
+use Rattle.tx_log.specs.Transactions.{Transactions, Tx, coded_transactions, is_open, place_of_savepoint, most_savepoints}
 use Rattle.tx_log.specs.declared.phase.Rollback.{Rollback}
 use Rattle.tx_log.specs.declared.phase.Phase.{Phase}
 use Rattle.tx_log.specs.declared.phase.Phase.TheVariants.{Active, Rolling}
@@ -132,7 +132,7 @@ active_with places = record { rollback = None; places = places }
 
 -- a rollback to savepoint n, which keeps the first n places
 abbrev pub rolling_to : List ℕ → ℕ → Bool → Tx
-rolling_to places n ends = record { rollback = Some (record { to = place_in places n; ends = ends }); places = take n places }
+rolling_to places n ends = record { rollback = Some (record { to = place_of_savepoint places n; ends = ends }); places = take n places }
 
 abbrev pub finished_by : Transactions → ℕ → List ℕ → Option Rollback → Transactions
 finished_by txs t places None = txs

@@ -1,7 +1,7 @@
 -- What is kept beside each record of a log. Both lists stand newest first.
 use Rattle.std.specs.Prelude.{◌≡◌, ℕ, ◌≤◌, List, [], ◌∷◌, length, reverse}
 use Rattle.tx_log.specs.Walks.{absent_at}
-use Rattle.tx_log.specs.Log.{lsn_of, key_of, leads_to, led, is_change, chain, IsNumbered}
+use Rattle.tx_log.specs.Log.{lsn_of, key_of_record, leads_to, led, tells_change, chain, IsNumbered}
 use Rattle.tx_log.specs.declared.log_record.LogRecord.{LogRecord}
 use Rattle.tx_log.specs.declared.mark.Mark.{Mark}
 
@@ -13,8 +13,8 @@ first_lsn (u ∷ us) = lsn_of u
 -- the mark of a record above others: the newest live change on the way down from it, and whether the live changes
 -- below it leave its key absent
 pub record IsMarked (r : LogRecord) (rs : List LogRecord) (m : Mark) : Type 0 where
-  pub newest : m.newest ≡ first_lsn (led (is_change r) r (chain rs (leads_to r)))
-  pub absent : m.absent ≡ absent_at (key_of r) (chain rs (leads_to r))
+  pub newest : m.newest ≡ first_lsn (led (tells_change r) r (chain rs (leads_to r)))
+  pub absent : m.absent ≡ absent_at (key_of_record r) (chain rs (leads_to r))
 
 abbrev pub AreMarked : List LogRecord → List Mark → Type 0
 AreMarked [] [] = Unit {0}

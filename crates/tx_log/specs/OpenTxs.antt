@@ -4,7 +4,7 @@ use Rattle.std.specs.FinMap as maps
 use Rattle.rec_types.specs.Kept.{Kept}
 use Rattle.rec_types.specs.declared.transaction.TxId.{TxId}
 use Rattle.tx_log.specs.Finds.{Txs}
-use Rattle.tx_log.specs.Places.{place_at}
+use Rattle.tx_log.specs.Places.{place_of_number}
 use Rattle.tx_log.specs.Transactions.{Transactions, Tx}
 use Rattle.tx_log.specs.declared.open_tx.OpenTx.{OpenTx}
 use Rattle.tx_log.specs.declared.phase.Rollback.{Rollback}
@@ -16,10 +16,10 @@ ends_at (Some r) = r.ends
 -- the rollback under way, with its place in the changes
 abbrev pub rollback_at : ℕ → List Kept → Option Rollback → Option Rollback
 rollback_at t cs None = None
-rollback_at t cs (Some r) = Some (record { to = place_at t r.to cs; ends = r.ends })
+rollback_at t cs (Some r) = Some (record { to = place_of_number t r.to cs; ends = r.ends })
 
 abbrev pub tx_at : ℕ → List Kept → OpenTx → Tx
-tx_at t cs e = record { rollback = rollback_at t cs e.rollback; places = map (λ s. place_at t s cs) e.saves.items }
+tx_at t cs e = record { rollback = rollback_at t cs e.rollback; places = map (λ s. place_of_number t s cs) e.saves.items }
 
 abbrev pub txs_of : List Kept → List (TxId × OpenTx) → Transactions
 txs_of cs [] = maps.empty

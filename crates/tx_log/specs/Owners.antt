@@ -63,5 +63,5 @@ stands_by is_open s (c ∷ cs) = stands_by is_open (if is_pending is_open (chang
 
 -- The owned keys that have no record: the newest live change that writes there takes them out, or all of them are claims,
 -- and the first has seen nothing there.
-abbrev pub absent : (ℕ → Bool) → List Kept → Contents
-absent is_open cs = (stands_by is_open nothing cs).out
+abbrev pub keys_absent : (ℕ → Bool) → List Kept → Contents
+keys_absent is_open cs = (stands_by is_open nothing cs).out

@@ -3,6 +3,6 @@ use Rattle.std.specs.Prelude.{ℕ, suc, ◌&&◌, ◌==◌, nat_le, if◌then◌
 use Rattle.rec_types.specs.Kept.{Kept}
 
 -- how many changes of the transaction have a number of at most s
-abbrev pub place_at : ℕ → ℕ → List Kept → ℕ
-place_at t s [] = 0
-place_at t s (c ∷ cs) = if (c.tx == t) && nat_le c.lsn s then suc (place_at t s cs) else place_at t s cs
+abbrev pub place_of_number : ℕ → ℕ → List Kept → ℕ
+place_of_number t s [] = 0
+place_of_number t s (c ∷ cs) = if (c.tx == t) && nat_le c.lsn s then suc (place_of_number t s cs) else place_of_number t s cs

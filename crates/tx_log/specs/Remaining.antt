@@ -19,5 +19,5 @@ IsPart (d ∷ p) (c ∷ h) = ((d ≡ c) × IsTrue c.live × IsPart p h) ⊎ IsPa
 abbrev pub out_of : ℕ → ℕ → Change
 out_of t x = record { tx = t; key = x ∷ []; after = Some None; live = true }
 
-abbrev pub back_of : ℕ → ℕ → Change
-back_of t x = record { tx = t; key = x ∷ []; after = Some None; live = false }
+abbrev pub taken_back_at : ℕ → ℕ → Change
+taken_back_at t x = record { tx = t; key = x ∷ []; after = Some None; live = false }

@@ -37,11 +37,11 @@ abbrev pub most_savepoints : ℕ
 most_savepoints = 32
 
 -- the place of savepoint n, and the beginning for 0
-abbrev pub place_in : List ℕ → ℕ → ℕ
-place_in places zero = 0
-place_in [] (suc n) = 0
-place_in (p ∷ places) (suc zero) = p
-place_in (p ∷ places) (suc (suc n)) = place_in places (suc n)
+abbrev pub place_of_savepoint : List ℕ → ℕ → ℕ
+place_of_savepoint places zero = 0
+place_of_savepoint [] (suc n) = 0
+place_of_savepoint (p ∷ places) (suc zero) = p
+place_of_savepoint (p ∷ places) (suc (suc n)) = place_of_savepoint places (suc n)
 
 -- 0 for a transaction that isn't open
 abbrev pub depth_of : Option Tx → ℕ
@@ -53,11 +53,11 @@ abbrev pub live_in : List Change → ℕ → Option Tx → ℕ
 live_in h t None = 0
 live_in h t (Some tx) = live_from h t zero
 
-abbrev pub left_of : List Change → ℕ → Option Rollback → ℕ
-left_of h t None = 0
-left_of h t (Some r) = live_from h t r.to
+abbrev pub left_to_undo : List Change → ℕ → Option Rollback → ℕ
+left_to_undo h t None = 0
+left_to_undo h t (Some r) = live_from h t r.to
 
 -- the changes that a rollback under way is still to take back
 abbrev pub left_in : List Change → ℕ → Option Tx → ℕ
 left_in h t None = 0
-left_in h t (Some tx) = left_of h t tx.rollback
+left_in h t (Some tx) = left_to_undo h t tx.rollback

@@ -2,7 +2,7 @@
 use Rattle.std.specs.Prelude.{ℕ, Bool, false, not, nat_lt, if◌then◌else◌, List, [], ◌∷◌, Option, Some, None, is_some, option_map}
 use Rattle.std.specs.List.{list_any}
 use Rattle.rec_types.specs.Contents.{same_key}
-use Rattle.tx_log.specs.Log.{lsn_of, prev_of, key_of, old_of, new_of}
+use Rattle.tx_log.specs.Log.{lsn_of, prev_of, key_of_record, old_of, new_of}
 use Rattle.tx_log.specs.LogState.{step_of}
 use Rattle.tx_log.specs.Owners.{says}
 use Rattle.tx_log.specs.declared.phase.UndoStep.{UndoStep}
@@ -11,7 +11,7 @@ use Rattle.tx_log.specs.declared.undo_chain.LiveChange.{LiveChange}
 use Rattle.tx_log.specs.declared.undo_chain.Link.{Link}
 
 abbrev pub change_in : LogRecord → LiveChange
-change_in u = record { lsn = lsn_of u; prev = prev_of u; key = key_of u; before = old_of u; after = new_of u }
+change_in u = record { lsn = lsn_of u; prev = prev_of u; key = key_of_record u; before = old_of u; after = new_of u }
 
 abbrev pub newest_in : List LogRecord → Option LiveChange
 newest_in [] = None
@@ -26,7 +26,7 @@ abbrev pub step_to : LiveChange → UndoStep
 step_to c = step_of c.key (option_map (λ _. c.before) c.after)
 
 abbrev pub is_at : List ℕ → LogRecord → Bool
-is_at x u = same_key (key_of u) x
+is_at x u = same_key (key_of_record u) x
 
 abbrev pub is_after : ℕ → LogRecord → Bool
 is_after s u = nat_lt s (lsn_of u)

@@ -1,7 +1,7 @@
 -- What the live changes of a transaction write: keys with the record that is put there, or with none.
 use Rattle.std.specs.Prelude.{ℕ, Bool, true, false, List, [], ◌∷◌, filter, Option, Some, None}
 use Rattle.rec_types.specs.History.{Change, live_of}
-use Rattle.tx_log.specs.Log.{key_of, new_of}
+use Rattle.tx_log.specs.Log.{key_of_record, new_of}
 use Rattle.tx_log.specs.declared.log_record.LogRecord.{LogRecord}
 
 -- a claim and what was taken back write nothing
@@ -21,4 +21,4 @@ own t h = filter (live_of t) h
 -- what updates and claims write
 abbrev pub written_by : List LogRecord → List (List ℕ × Option (List ℕ))
 written_by [] = []
-written_by (u ∷ us) = writes_if true (key_of u) (new_of u) (written_by us)
+written_by (u ∷ us) = writes_if true (key_of_record u) (new_of u) (written_by us)

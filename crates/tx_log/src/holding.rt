@@ -1,10 +1,10 @@
 ghost use Rattle.std.specs.Prelude.{◌≡◌, ℕ, ◌+◌, ◌^◌, ◌-◌, ◌<◌, ◌≤◌, Bool, ◌||◌, ◌==◌, List, IsSome, IsTrue, None, Some, false, length, slice_get, reverse, map, IfOk, OnOk, OnErr, if◌then◌else◌};
 ghost use Rattle.std.specs.List.{list_any};
 ghost use Rattle.indexmap.specs.IndexMap.{index_map_len, values};
-ghost use Rattle.tx_log.specs.Log.{chain, key_of};
+ghost use Rattle.tx_log.specs.Log.{chain, key_of_record};
 ghost use Rattle.tx_log.specs.Walks.{is_at};
 ghost use Rattle.tx_log.specs.Marks.{CanWalk};
-ghost use Rattle.tx_log.specs.Holdings.{held, Places, HeldAt, holder, live_of, owned_in, lowered, busy, or_idle, idle, IsHeld, AreHeld, AllBusy};
+ghost use Rattle.tx_log.specs.Holdings.{holdings_in, Places, HeldAt, holder, live_held, owned_in, lowered, busy, or_idle, idle, IsHeld, AreHeld, AllBusy};
 ghost use Rattle.tx_log.specs.declared.holding.Holding.{Holding};
 ghost use Rattle.tx_log.specs.declared.log_record.LogRecord.{LogRecord};
 
@@ -32,7 +32,7 @@ pub type Holdings = IndexMap<Key, Holding>;
 impl Holding {
     /// How many changes of the transaction are live.
     fn live_of(&self, tx: TxId) -> u32
-        ensures { result ≡ live_of tx.0 (Some self.now) }
+        ensures { result ≡ live_held tx.0 (Some self.now) }
     {
         if self.owner == tx { self.live } else { 0 }
     }
@@ -51,7 +51,7 @@ impl Holding {
 
 /// The open transaction that owns the key.
 pub fn find_holder(holdings: &Holdings, key: &Key) -> Option<TxId>
-    ensures { result ≡ holder (held holdings.now key.now) }
+    ensures { result ≡ holder (holdings_in holdings.now key.now) }
 {
     if holdings.is_empty() {
         return None;
@@ -91,10 +91,10 @@ pub fn held_keys(
     open_tx: &OpenTx,
 ) -> Result<Vec<Key>, Memory>
     requires walk { CanWalk log.now.items log.now.marks open_tx.now.last }
-    requires told { AreHeld (held holdings.now) tx.0
-        (map key_of (chain (reverse log.now.items) open_tx.now.last)) }
+    requires told { AreHeld (holdings_in holdings.now) tx.0
+        (map key_of_record (chain (reverse log.now.items) open_tx.now.last)) }
     requires live { length (chain (reverse log.now.items) open_tx.now.last) ≤ open_tx.now.live }
-    ensures held { IfOk result (λ keys. AreHeld (held holdings.now) tx.0 keys.items) }
+    ensures held { IfOk result (λ keys. AreHeld (holdings_in holdings.now) tx.0 keys.items) }
     ensures few { IfOk result (λ keys. length keys.items < 4294967296) }
 {
     if holdings.len() <= open_tx.live as usize {
@@ -106,7 +106,7 @@ pub fn held_keys(
 
 /// Where the key stands.
 fn place_of_key(holdings: &Holdings, key: &Key) -> usize
-    requires { IsSome (held holdings.now key.now) }
+    requires { IsSome (holdings_in holdings.now key.now) }
     ensures within { result < index_map_len holdings.now }
     ensures stands { HeldAt holdings.now key.now result }
 {
@@ -140,7 +140,7 @@ pub fn raise(
     requires most { (h : Holding) → slice_get (values holdings.old) at ≡ Some h → h.live < 2 ^ 32 - 1 }
     ensures { (k : List ℕ) (s : HeldAt holdings.old k at) → (result.0 ≡ s.hold.absent)
         × (result.1 ≡ (if writes || (s.hold.live == 0) then absent else s.hold.absent))
-        × Places (held holdings.old) (held holdings.new) k
+        × Places (holdings_in holdings.old) (holdings_in holdings.new) k
         (Some (record { owner = tx; live = s.hold.live + 1; absent = result.1 })) }
 {
     let holding = &mut holdings[at];
@@ -155,10 +155,10 @@ pub fn raise(
 /// Counts one live change less at a key, forgets the key with its last one, and answers whether the key was absent.
 /// `absent` is whether the changes that are left leave it so.
 pub fn lower(holdings: &mut Holdings, key: &Key, absent: bool) -> bool
-    requires there { IsSome (held holdings.old key.now) }
-    requires some { (h : Holding) → held holdings.old key.now ≡ Some h → 0 < h.live }
-    ensures { (h : Holding) → held holdings.old key.now ≡ Some h → (result ≡ h.absent)
-        × Places (held holdings.old) (held holdings.new) key.now (lowered h absent) }
+    requires there { IsSome (holdings_in holdings.old key.now) }
+    requires some { (h : Holding) → holdings_in holdings.old key.now ≡ Some h → 0 < h.live }
+    ensures { (h : Holding) → holdings_in holdings.old key.now ≡ Some h → (result ≡ h.absent)
+        × Places (holdings_in holdings.old) (holdings_in holdings.new) key.now (lowered h absent) }
 {
     let at = place_of_key(holdings, key);
     let was = holdings[at].absent;
@@ -176,9 +176,9 @@ pub fn lower(holdings: &mut Holdings, key: &Key, absent: bool) -> bool
 /// Forgets the keys of the changes that aren't taken back, on the way down from the record with the number `from`.
 pub fn free_keys(holdings: &mut Holdings, log: &Records, from: u32)
     requires { CanWalk log.now.items log.now.marks from }
-    ensures { (q : List ℕ) → held holdings.new q
+    ensures { (q : List ℕ) → holdings_in holdings.new q
         ≡ (if list_any (is_at q) (chain (reverse log.now.items) from) then None
-        else held holdings.old q) }
+        else holdings_in holdings.old q) }
 {
     let mut at = from;
     while let Some(link) = newest_link(log, at) {
@@ -191,10 +191,10 @@ pub fn free_keys(holdings: &mut Holdings, log: &Records, from: u32)
 /// changes that aren't taken back, on the way down from the record with the number `from`.
 pub fn free_held(holdings: &mut Holdings, log: &Records, from: u32, is_last: bool)
     requires { CanWalk log.now.items log.now.marks from }
-    ensures last { IsTrue is_last → (q : List ℕ) → held holdings.new q ≡ None }
-    ensures others { is_last ≡ false → (q : List ℕ) → held holdings.new q
+    ensures last { IsTrue is_last → (q : List ℕ) → holdings_in holdings.new q ≡ None }
+    ensures others { is_last ≡ false → (q : List ℕ) → holdings_in holdings.new q
         ≡ (if list_any (is_at q) (chain (reverse log.now.items) from) then None
-        else held holdings.old q) }
+        else holdings_in holdings.old q) }
 {
     if is_last {
         // Takes as long as there are keys; a clear would take as long as there is room.
@@ -206,8 +206,8 @@ pub fn free_held(holdings: &mut Holdings, log: &Records, from: u32, is_last: boo
 
 /// Forgets the key where no change is live there.
 fn drop_idle(holdings: &mut Holdings, key: &Key)
-    ensures { Places (held holdings.old) (held holdings.new) key.now
-        (busy (held holdings.old key.now)) }
+    ensures { Places (holdings_in holdings.old) (holdings_in holdings.new) key.now
+        (busy (holdings_in holdings.old key.now)) }
 {
     let idle = match holdings.get_full(key) {
         Some((at, _, holding)) => { if holding.live == 0 { Some(at) } else { None } }
@@ -220,10 +220,10 @@ fn drop_idle(holdings: &mut Holdings, key: &Key)
 
 /// Puts the key in where it isn't there, and answers where it stands. Fault: Memory, which changes nothing.
 fn add_idle(holdings: &mut Holdings, key: &Key) -> Result<usize, Memory>
-    ensures ok { OnOk result (Places (held holdings.old) (held holdings.new) key.now
-        (Some (or_idle (held holdings.old key.now)))) }
+    ensures ok { OnOk result (Places (holdings_in holdings.old) (holdings_in holdings.new) key.now
+        (Some (or_idle (holdings_in holdings.old key.now)))) }
     ensures stands { IfOk result (HeldAt holdings.new key.now) }
-    ensures err { OnErr result ((q : List ℕ) → held holdings.new q ≡ held holdings.old q) }
+    ensures err { OnErr result ((q : List ℕ) → holdings_in holdings.new q ≡ holdings_in holdings.old q) }
 {
     let entry = holdings.entry(*key)?;
     let at = entry.index();
@@ -234,12 +234,12 @@ fn add_idle(holdings: &mut Holdings, key: &Key) -> Result<usize, Memory>
 /// Puts the key in where it isn't there, and takes out the one that was left over. Answers where the key stands. Fault:
 /// Memory.
 pub fn make_room(holdings: &mut Holdings, over: Option<Key>, key: &Key) -> Result<usize, Memory>
-    requires { AllBusy (held holdings.old) over }
+    requires { AllBusy (holdings_in holdings.old) over }
     ensures kept { (rs : List LogRecord) (is_open : ℕ → Bool)
-        → IsHeld rs is_open (held holdings.old) → IsHeld rs is_open (held holdings.new) }
+        → IsHeld rs is_open (holdings_in holdings.old) → IsHeld rs is_open (holdings_in holdings.new) }
     ensures stands { IfOk result (HeldAt holdings.new key.now) }
-    ensures one { OnOk result (AllBusy (held holdings.new) (Some key.now)) }
-    ensures still { OnErr result (AllBusy (held holdings.new) over) }
+    ensures one { OnOk result (AllBusy (holdings_in holdings.new) (Some key.now)) }
+    ensures still { OnErr result (AllBusy (holdings_in holdings.new) over) }
 {
     if let Some(other) = over {
         if other != *key {

@@ -6,7 +6,7 @@ ghost use Rattle.rec_types.specs.Kept.{Kept};
 ghost use Rattle.tx_log.specs.LogLaws.{IsChained};
 ghost use Rattle.tx_log.specs.Walks.{absent_at};
 ghost use Rattle.tx_log.specs.declared.log_record.LogRecord.TheVariants.{Update, Compensation, Unclaim};
-ghost use Rattle.tx_log.specs.Remaining.{LosesLives, IsPart, out_of, back_of};
+ghost use Rattle.tx_log.specs.Remaining.{LosesLives, IsPart, out_of, taken_back_at};
 
 /// A log of eight records, of a transaction that went back twice: its records are numbered, and lead to those before
 /// them. On the way down the updates that were taken back are passed over.
@@ -76,8 +76,8 @@ pub fn nothing_lives_again()
     ensures from { (h : List Change) → (t p : ℕ) → LosesLives h (take_back h t p) }
     ensures newest_from { (h : List Change) → (t p n : ℕ) → LosesLives h (take_newest h t p n) }
     ensures example { LosesLives (out_of 1 97 ∷ out_of 2 98 ∷ [])
-        (back_of 1 97 ∷ out_of 2 98 ∷ []) }
-    ensures again { LosesLives (back_of 1 97 ∷ []) (out_of 1 97 ∷ []) → ⊥ }
+        (taken_back_at 1 97 ∷ out_of 2 98 ∷ []) }
+    ensures again { LosesLives (taken_back_at 1 97 ∷ []) (out_of 1 97 ∷ []) → ⊥ }
 {}
 
 /// Any part of a history's live changes uses no more of the log than the history, with the same transactions open. A
@@ -85,8 +85,8 @@ pub fn nothing_lives_again()
 pub fn a_part_uses_no_more()
     ensures uses { (is_open : ℕ → Bool) → (p h : List Change) → IsPart p h
         → log_use is_open p ≤ log_use is_open h }
-    ensures part { IsPart (out_of 2 98 ∷ []) (back_of 1 97 ∷ out_of 2 98 ∷ []) }
-    ensures of_two { log_use (λ _. true) (back_of 1 97 ∷ out_of 2 98 ∷ []) ≡ 4 }
+    ensures part { IsPart (out_of 2 98 ∷ []) (taken_back_at 1 97 ∷ out_of 2 98 ∷ []) }
+    ensures of_two { log_use (λ _. true) (taken_back_at 1 97 ∷ out_of 2 98 ∷ []) ≡ 4 }
     ensures of_one { log_use (λ _. true) (out_of 2 98 ∷ []) ≡ 2 }
-    ensures taken { IsPart (back_of 1 97 ∷ []) (back_of 1 97 ∷ []) → ⊥ }
+    ensures taken { IsPart (taken_back_at 1 97 ∷ []) (taken_back_at 1 97 ∷ []) → ⊥ }
 {}

@@ -4,7 +4,7 @@ ghost use Rattle.rec_types.specs.History.{log_len, own_count};
 ghost use Rattle.tx_log.specs.Log.{record_at};
 ghost use Rattle.tx_log.specs.LogLaws.{IsChained};
 ghost use Rattle.tx_log.specs.Transactions.{depth_of, live_in, left_in, fresh, most_savepoints};
-ghost use Rattle.tx_log.specs.Owners.{owner_of, holder_of, keys_owned, absent};
+ghost use Rattle.tx_log.specs.Owners.{owner_of, holder_of, keys_owned, keys_absent};
 ghost use Rattle.tx_log.specs.Written.{own, writes};
 ghost use Rattle.tx_log.specs.LogState.{new_log, history_in, open_in, tx_in, use_in, phase_in, undo_in, undo_step, places_in, active_with, rolling_to, finished, with_txs, with_update, with_compensation, IsRolling, IsLog, IsActive};
 
@@ -49,9 +49,9 @@ impl Model for TxLog {
 
     ghost coded = { coded_log_state };
 
-    ghost use Rattle.tx_log.specs.LogFields.{state_of, IsTxLog};
+    ghost use Rattle.tx_log.specs.LogFields.{log_state_of, IsTxLog};
 
-    ghost view = { state_of };
+    ghost view = { log_state_of };
 
     ghost invariant = { IsTxLog };
 }
@@ -117,7 +117,7 @@ impl TxLog {
 
     /// How many owned keys have no record now.
     pub fn absent_owned(&self) -> u32
-        ensures value { result ≡ maps.len (absent (open_in self.now) self.now.changes) }
+        ensures value { result ≡ maps.len (keys_absent (open_in self.now) self.now.changes) }
         ensures log { IsLog self.now }
     {
         self.gone

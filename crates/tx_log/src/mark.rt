@@ -1,6 +1,6 @@
 ghost use Rattle.std.specs.Prelude.{◌≡◌, ℕ, ◌<◌, ◌≤◌, List, ◌∷◌, length, reverse};
 ghost use Rattle.tx_log.specs.Walks.{absent_at};
-ghost use Rattle.tx_log.specs.Log.{chain, key_of, lsn_of, IsNumbered};
+ghost use Rattle.tx_log.specs.Log.{chain, key_of_record, lsn_of, IsNumbered};
 ghost use Rattle.tx_log.specs.Marks.{first_lsn, AreMarked};
 ghost use Rattle.tx_log.specs.declared.log_record.LogRecord.{LogRecord};
 
@@ -36,7 +36,7 @@ pub fn is_absent_below(log: &Records, lsn: u32) -> bool
     requires within { lsn ≤ length log.now.marks }
     ensures { (rs us : List LogRecord) (n : ℕ) (u : LogRecord) → IsNumbered rs
         → AreMarked rs (reverse log.now.marks) → chain rs n ≡ u ∷ us → lsn_of u ≡ lsn
-        → result ≡ absent_at (key_of u) us }
+        → result ≡ absent_at (key_of_record u) us }
 {
     log.mark((lsn - 1) as usize).absent
 }

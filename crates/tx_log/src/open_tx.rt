@@ -1,6 +1,6 @@
 ghost use Rattle.std.specs.Prelude.{◌≡◌, ℕ, ◌+◌, ◌^◌, ◌-◌, ◌<◌, ◌≤◌, [], ◌∷◌, ◌++◌, length, slice_get, take, None, Some, option_map, IsSome, IsTrue, if◌then◌else◌};
 ghost use Rattle.indexmap.specs.IndexMap.{index_map_len};
-ghost use Rattle.tx_log.specs.Transactions.{place_in, most_savepoints};
+ghost use Rattle.tx_log.specs.Transactions.{place_of_savepoint, most_savepoints};
 ghost use Rattle.tx_log.specs.LogState.{rollback_phase};
 ghost use Rattle.tx_log.specs.OpenTxs.{ends_at};
 ghost use Rattle.tx_log.specs.Finds.{found, PutsAt, StandsAt};
@@ -95,7 +95,7 @@ impl OpenTx {
     /// What its newest record was at savepoint n, and 0 for 0.
     pub fn save_at(&self, n: u32) -> u32
         requires { n ≤ length self.now.saves.items }
-        ensures { result ≡ place_in self.now.saves.items n }
+        ensures { result ≡ place_of_savepoint self.now.saves.items n }
     {
         if n == 0 {
             0

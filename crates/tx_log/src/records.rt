@@ -2,8 +2,8 @@ ghost use Rattle.std.specs.Prelude.{◌≡◌, ℕ, ◌+◌, ◌*◌, ◌<◌, �
 ghost use Rattle.std.specs.Vec.{vec_capacity};
 ghost use Rattle.rec_types.specs.LimitBounds.{most_log_records};
 ghost use Rattle.rec_types.specs.Widths.{widest_record};
-ghost use Rattle.tx_log.specs.Compact.{read, IsWithin, before_in, after_in, mark_in, back_kind, is_claim_kind, told_as};
-ghost use Rattle.tx_log.specs.Log.{change_record, back_record, back_in, key_of, prev_of};
+ghost use Rattle.tx_log.specs.Compact.{read, LiesIn, before_in, after_in, mark_in, back_kind, is_claim_kind, told_as};
+ghost use Rattle.tx_log.specs.Log.{change_record, back_record, back_in, key_of_record, prev_of};
 ghost use Rattle.rec_types.specs.declared.transaction.TxId.{TxId};
 ghost use Rattle.tx_log.specs.Walks.{change_in, link_of, step_to};
 ghost use Rattle.tx_log.specs.declared.log_record.LogRecord.{LogRecord};
@@ -62,13 +62,13 @@ pub struct Records {
 }
 
 impl Model for Records {
-    ghost use Rattle.tx_log.specs.Compact.{RecordsView, view_of, IsCompact};
+    ghost use Rattle.tx_log.specs.Compact.{RecordsView, view_of, IsCompactLog};
 
     ghost Value = { RecordsView };
 
     ghost view = { view_of };
 
-    ghost invariant = { IsCompact };
+    ghost invariant = { IsCompactLog };
 }
 
 impl Kind {
@@ -168,7 +168,7 @@ impl Entry {
 impl Span {
     // No record.
     fn none() -> Span
-        ensures { (bytes : List ℕ) → (read bytes result ≡ None) × IsWithin (length bytes) result }
+        ensures { (bytes : List ℕ) → (read bytes result ≡ None) × LiesIn (length bytes) result }
     {
         Span {
             at: 0,
@@ -182,7 +182,7 @@ fn note(bytes: &mut Vec<u8>, noted: &Option<Record>) -> Span
     requires room { vec_len bytes.old + widest_record ≤ vec_capacity bytes.old }
     requires few { vec_len bytes.old < 2 ^ 32 }
     ensures read { read bytes.new.items result ≡ noted.now }
-    ensures within { IsWithin (length bytes.new.items) result }
+    ensures within { LiesIn (length bytes.new.items) result }
     ensures grown { (more : List ℕ) × (bytes.new.items ≡ bytes.old.items ++ more)
         × (length more ≤ widest_record) }
     ensures capacity { vec_capacity bytes.old ≤ vec_capacity bytes.new }
@@ -207,7 +207,7 @@ fn note_written(bytes: &mut Vec<u8>, after: Option<&Option<Record>>) -> (Kind, S
     ensures told { (lsn prev rest : ℕ) (tx : TxId) (key : List ℕ) (before : Option (List ℕ))
         → told_as result.0 lsn prev tx key before (read bytes.new.items result.1) rest
         ≡ change_record lsn prev tx key before (option_map (λ w. w.now) after.entry) }
-    ensures within { IsWithin (length bytes.new.items) result.1 }
+    ensures within { LiesIn (length bytes.new.items) result.1 }
     ensures grown { (more : List ℕ) × (bytes.new.items ≡ bytes.old.items ++ more)
         × (length more ≤ widest_record) }
 {
@@ -220,7 +220,7 @@ fn note_written(bytes: &mut Vec<u8>, after: Option<&Option<Record>>) -> (Kind, S
 // The record whose bytes stand there, if there is one.
 #[inline(always)]
 fn record_at(bytes: &[u8], span: Span) -> Option<Record>
-    requires { IsWithin (length bytes.now) span }
+    requires { LiesIn (length bytes.now) span }
     ensures { result ≡ read bytes.now span }
 {
     if span.len as usize > RECORD_WIDTH {
@@ -376,7 +376,7 @@ impl Records {
         ensures items { (u : LogRecord) → slice_get self.old.items of ≡ Some u
             → self.new.items
             ≡ self.old.items
-            ++ back_record (length self.old.items + 1) prev tx (key_of u) (back_in u) (prev_of u)
+            ++ back_record (length self.old.items + 1) prev tx (key_of_record u) (back_in u) (prev_of u)
             ∷ [] }
         ensures marks { self.new.marks ≡ self.old.marks ++ mark ∷ [] }
         ensures room { self.old.room ≤ self.new.room }

@@ -1,6 +1,6 @@
 ghost use Rattle.std.specs.Prelude.{◌≡◌, ℕ, ◌+◌, ◌<◌, true, [], ◌++◌, List, length, reverse, map, Option, option_map, Some, cond, IfOk, OnOk};
 ghost use Rattle.std.specs.List.{filter};
-ghost use Rattle.tx_log.specs.Log.{chain, key_of};
+ghost use Rattle.tx_log.specs.Log.{chain, key_of_record};
 ghost use Rattle.tx_log.specs.Marks.{CanWalk};
 ghost use Rattle.tx_log.specs.Walks.{link_of, newest_in, is_after, step_to};
 ghost use Rattle.tx_log.specs.Written.{written_by, writes_if};
@@ -100,7 +100,7 @@ pub fn count_changes(log: &Records, from: u32, live: u32, to: u32) -> u32
 /// `from`. `count` is how many are expected. Fault: Memory.
 pub fn changed_keys(alloc: Global, log: &Records, from: u32, count: u32) -> Result<Vec<Key>, Memory>
     requires { CanWalk log.now.items log.now.marks from }
-    ensures { IfOk result (λ keys. keys.items ≡ map key_of (chain (reverse log.now.items) from)) }
+    ensures { IfOk result (λ keys. keys.items ≡ map key_of_record (chain (reverse log.now.items) from)) }
 {
     let mut keys = Vec::with_capacity(alloc, count as usize)?;
     let mut at = from;

@@ -4,14 +4,14 @@ ghost use Rattle.btree_node.specs.Lists.{Element, Each, Ascends, IsAt, IsPlace};
 ghost use Rattle.btree_insert.specs.Bounds.{AreWithin, Between, son_bounds};
 ghost use Rattle.btree_insert.specs.declared.bounds.Bounds.{Bounds};
 ghost use Rattle.btree_insert.specs.Contents.{lookup_in};
-ghost use Rattle.btree_insert.specs.Growth.{IsOutside};
+ghost use Rattle.btree_insert.specs.Growth.{IsNotOfPages};
 ghost use Rattle.btree_insert.specs.PageTrees.{TreeAt, Apart, Body, Spells, kind_of_level};
 ghost use Rattle.btree_insert.specs.Reached.{Leads};
 ghost use Rattle.btree_delete.specs.Deleted.{MayStop};
-ghost use Rattle.btree_delete.specs.Subtrees.{behind, head_of};
+ghost use Rattle.btree_delete.specs.Subtrees.{behind_element, head_of};
 ghost use Rattle.btree_delete.specs.Shrinking.{MayBeUnderfull, WritesOrHandsUp, UnderfullGoesUp, MayGoUp, TreatsAndSettles, RemovesBelow, gone, record_gone, removal, removal_if, sought, CanTreat, SettlesFather, HasElement, IsReached, IsSubtree, TakesHere, VisitsBelow};
 ghost use Rattle.btree_delete.specs.Tidy.{is_visited, visits, so_far, IsAwaited};
-ghost use Rattle.btree_delete.specs.Treatment.{element_at, son_at, brothers};
+ghost use Rattle.btree_delete.specs.Treatment.{element_at, son_number, brothers};
 ghost use Rattle.btree_delete.specs.PagesLeft.{with_edit};
 ghost use Rattle.btree_node.specs.Layout.{IsOrder};
 ghost use Rattle.btree_insert.specs.Edits.{Reads, OnlyWrites};
@@ -70,37 +70,37 @@ fn treat_and_settle<S: Store>(
 ) -> Result<Shrunk, TreeFault>
     requires can { CanTreat pages.old.pages visited.old.items (so_far edit.old) tree.now father.old i
         son }
-    requires other { tree.now.page ≡ son_at father.old i → ⊥ }
+    requires other { tree.now.page ≡ son_number father.old i → ⊥ }
     requires awaited { IsAwaited visited.old.items (so_far edit.old) tree.now.page }
     ensures right { IsTrue pages.old.steady → i < length father.old.elements.items
         → (brother : Node)
-        → Spells tree.now.order (at pages.old.pages) (son_at father.old (suc i)) brother
+        → Spells tree.now.order (at pages.old.pages) (son_number father.old (suc i)) brother
         → brother.kind ≡ kind_of_level (tree.now.height - 1)
         → AreWithin (son_bounds father.old.elements.items (suc i) tree.now.bounds)
         brother.elements.items
-        → is_visited visited.old.items (son_at father.old (suc i)) ≡ false
+        → is_visited visited.old.items (son_number father.old (suc i)) ≡ false
         → MatchResult result
-        (λ g. (visited.new.items ≡ visited.old.items ++ son_at father.old (suc i) ∷ [])
+        (λ g. (visited.new.items ≡ visited.old.items ++ son_number father.old (suc i) ∷ [])
         × TreatsAndSettles tree.now father.old (brothers i son brother) removed
         (so_far edit.old) (so_far edit.new) (removal father.new g))
-        IsOutside }
+        IsNotOfPages }
     ensures left { IsTrue pages.old.steady → (j : ℕ) → i ≡ suc j
         → i ≡ length father.old.elements.items → (brother : Node)
-        → Spells tree.now.order (at pages.old.pages) (son_at father.old j) brother
+        → Spells tree.now.order (at pages.old.pages) (son_number father.old j) brother
         → brother.kind ≡ kind_of_level (tree.now.height - 1)
         → AreWithin (son_bounds father.old.elements.items j tree.now.bounds) brother.elements.items
-        → is_visited visited.old.items (son_at father.old j) ≡ false
+        → is_visited visited.old.items (son_number father.old j) ≡ false
         → MatchResult result
-        (λ g. (visited.new.items ≡ visited.old.items ++ son_at father.old j ∷ [])
+        (λ g. (visited.new.items ≡ visited.old.items ++ son_number father.old j ∷ [])
         × TreatsAndSettles tree.now father.old (brothers j brother son) removed
         (so_far edit.old) (so_far edit.new) (removal father.new g))
-        IsOutside }
+        IsNotOfPages }
     ensures gone { IfOk result (λ g. gone (removal father.new g) ≡ removed) }
     ensures up { IfOk result (λ g. UnderfullGoesUp tree.now.order tree.now.height tree.now.bounds
         tree.now.page edit.new.writes.items edit.new.freed.items (removal father.new g)) }
     ensures settled { OnOk result
         (SettlesFather pages.old.pages (visits visited.old.items visited.new.items)
-        (so_far edit.old) (so_far edit.new) (son_at father.old i) tree.now.page) }
+        (so_far edit.old) (so_far edit.new) (son_number father.old i) tree.now.page) }
     ensures edit { TakesNone tree.now.order edit.old result edit.new }
     ensures reading { Reads 1 pages.old result pages.new }
 {
@@ -153,13 +153,13 @@ fn delete_here<S: Store>(
         (λ g. RemovesBelow (head_of tree.now least) (with_edit (at pages.old.pages) edit.new) es us
         (visits visited.old.items visited.new.items) (element_at node.old i).0
         (Some (removal node.new g)))
-        IsOutside }
+        IsNotOfPages }
     ensures gone { IfOk result (λ g. gone (removal node.new g) ≡ element_at node.old i) }
     ensures up { IfOk result (λ g. UnderfullGoesUp tree.now.order tree.now.height tree.now.bounds
         tree.now.page edit.new.writes.items edit.new.freed.items (removal node.new g)) }
     ensures first { tree.now.height ≡ 1 → i ≡ 0
         → IfOk result (λ g. UnderfullGoesUp tree.now.order tree.now.height
-        (behind (element_at node.old i) tree.now.bounds) tree.now.page
+        (behind_element (element_at node.old i) tree.now.bounds) tree.now.page
         edit.new.writes.items edit.new.freed.items (removal node.new g)) }
     ensures taken { OnOk result
         (TakesHere pages.old.pages (visits visited.old.items visited.new.items)

@@ -1,16 +1,17 @@
-ghost use Rattle.std.specs.Prelude.{◌≡◌, ◌-◌, ◌*◌, ◌<◌, ◌≤◌, ◌⊎◌, ℕ, List, Option, Some, None, true, false, IsTrue, IsSome, IfOk, IfSome, IfErr, OnOk, MatchResult, length};
+ghost use Rattle.std.specs.Prelude.{◌≡◌, ◌-◌, ◌<◌, ◌≤◌, ◌⊎◌, ℕ, List, Option, Some, None, true, false, IsTrue, IsSome, IfOk, IfSome, IfErr, OnOk, MatchResult, length};
 ghost use Rattle.page_store.specs.PageMap.{PageMap, at, after};
 ghost use Rattle.btree_node.specs.Lists.{Element};
-ghost use Rattle.btree_insert.specs.Faults.{is_device};
-ghost use Rattle.btree_insert.specs.Growth.{IsOutside};
+ghost use Rattle.btree_insert.specs.Bounds.{unbounded};
+ghost use Rattle.btree_insert.specs.Faults.{is_tree_device};
+ghost use Rattle.btree_insert.specs.Growth.{IsNotOfPages};
 ghost use Rattle.btree_insert.specs.PageTrees.{Holds, Spells};
 ghost use Rattle.btree_insert.specs.Reached.{LeadsFrom};
 ghost use Rattle.btree_insert.specs.Spelt.{AreSpeltIn};
 ghost use Rattle.btree_insert.specs.Contents.{lookup_in, set_in};
 ghost use Rattle.page_store.specs.CanStage.{CanStage};
 ghost use Rattle.page_store.specs.PagesView.{OnlyStages};
-ghost use Rattle.btree_delete.specs.Deleted.{Deleted, MayStop, IsNoLarger};
-ghost use Rattle.btree_delete.specs.Treatment.{son_at};
+ghost use Rattle.btree_delete.specs.Deleted.{Deleted, Deletes, IsNoLarger};
+ghost use Rattle.btree_delete.specs.Treatment.{son_number};
 ghost use Rattle.btree_delete.specs.Shrinking.{MayBeUnderfull, UnderfullGoesUp, LeavesTree, ShrinksRoot, gone, removal};
 ghost use Rattle.btree_insert.specs.declared.bounds.Bounds.{Bounds};
 ghost use Rattle.btree_delete.specs.Tidy.{is_visited, IsTidy};
@@ -18,7 +19,6 @@ ghost use Rattle.btree_delete.specs.Subtrees.{head_page};
 ghost use Rattle.btree_delete.specs.PagesLeft.{with_edit};
 ghost use Rattle.btree_node.specs.Layout.{IsOrder};
 ghost use Rattle.btree_insert.specs.Sizes.{IsTree};
-ghost use Rattle.btree_insert.specs.Edits.{Stages};
 ghost use Rattle.btree_delete.specs.Edits.{TakesNone};
 
 use crate::deletion::delete_below::{Shrunk, delete_below};
@@ -26,7 +26,7 @@ use crate::deletion::delete_in_one::find_in_one;
 use crate::deletion::subtree::Subtree;
 use crate::deletion::underflow::free_page;
 use arrayvec::ArrayVec;
-use btree_insert::{Bounds, Spot, Tree, TreeFault, write_node};
+use btree_insert::{Tree, TreeFault, UNBOUNDED, root_spot, write_node};
 use btree_node::{Node, PageChange};
 use page_store::{PageEdit, Pages, Store};
 use rec_types::{Key, Memory, Record};
@@ -34,7 +34,7 @@ use std::alloc::Global;
 
 /// Son 0 of a node, 0 where it is a leaf.
 fn first_son(node: &Node) -> u32
-    ensures { result ≡ son_at node.now 0 }
+    ensures { result ≡ son_number node.now 0 }
 {
     if node.sons.is_empty() {
         0
@@ -96,8 +96,7 @@ fn shrink_tree(
 ) -> Result<(Tree, Option<Record>), TreeFault>
     requires order { IsOrder tree.now.order }
     requires height { 0 < tree.now.height }
-    requires up { UnderfullGoesUp tree.now.order tree.now.height
-        (record { low = None; high = None }) tree.now.root
+    requires up { UnderfullGoesUp tree.now.order tree.now.height unbounded tree.now.root
         edit.old.writes.items edit.old.freed.items (removal node.now shrunk) }
     requires none_taken { edit.old.taken ≡ 0 }
     ensures deleted { (pages : PageMap) (es : List Element) (us key : List ℕ)
@@ -107,7 +106,7 @@ fn shrink_tree(
         → MatchResult result
         (λ r. Deleted pages (after pages edit.new.writes.items edit.new.freed.items)
         tree.now es us key r)
-        IsOutside }
+        IsNotOfPages }
     ensures fits { (pages : List (Option (List ℕ))) (visited : List ℕ)
         → IsSome (at pages tree.now.root) → is_visited visited tree.now.root ≡ true
         → IsTidy pages visited edit.old.writes.items edit.old.freed.items
@@ -115,7 +114,7 @@ fn shrink_tree(
     ensures edit { TakesNone tree.now.order edit.old result edit.new }
     ensures answer { IfOk result (λ r. r.1 ≡ Some (gone (removal node.now shrunk)).1) }
     ensures smaller { IfOk result (λ r. IsNoLarger tree.now r.0) }
-    ensures no_device { is_device result ≡ false }
+    ensures no_device { is_tree_device result ≡ false }
 {
     match shrunk {
         Shrunk::Whole(removed) => {
@@ -144,21 +143,7 @@ pub fn delete<S: Store>(
     key: &Key,
 ) -> Result<(Tree, Option<Record>), TreeFault>
     requires tree { IsTree tree.now }
-    ensures deleted { IsTrue pages.old.steady → (es : List Element) (us : List ℕ)
-        → Holds (at pages.old.pages) tree.now es us
-        → MatchResult result
-        (λ r. Deleted (at pages.old.pages) (at pages.new.pages) tree.now es us key.now r)
-        (MayStop (lookup_in key.now es)) }
-    ensures led { IsTrue pages.old.steady → IfOk result
-        (λ r. LeadsFrom (Spells tree.now.order (at pages.old.pages)) key.now
-        tree.now.height tree.now.root r.1) }
-    ensures smaller { IfOk result (λ r. IsNoLarger tree.now r.0) }
-    ensures spelt { AreSpeltIn tree.now.order pages.old → AreSpeltIn tree.now.order pages.new }
-    ensures absent { IfOk result (λ r. r.1 ≡ None → (r.0 ≡ tree.now)
-        × (pages.new.pages ≡ pages.old.pages) × (pages.new.changed ≡ pages.old.changed)) }
-    ensures changed { IfOk result (λ r. IsSome r.1 → pages.new.changed ≡ true) }
-    ensures page_count { length pages.new.pages ≡ length pages.old.pages }
-    ensures stages { Stages (2 * tree.now.height - 1) pages.old result pages.new }
+    ensures { Deletes tree.now key.now pages.old result pages.new }
 {
     if tree.height == 0 {
         return Ok((*tree, None));
@@ -172,10 +157,7 @@ pub fn delete<S: Store>(
         order: tree.order,
         height: tree.height,
         page: tree.root,
-        bounds: Bounds {
-            low: None,
-            high: None,
-        },
+        bounds: UNBOUNDED,
     };
     let mut visited = ArrayVec::new();
     let mut node = Node::blank();
@@ -225,15 +207,7 @@ fn delete_where_it_lies<S: Store>(
     let Ok(next) = fewer(tree, tree.root, 0) else {
         return None;
     };
-    let root = Spot {
-        page: tree.root,
-        level: tree.height,
-        bounds: Bounds {
-            low: None,
-            high: None,
-        },
-    };
-    let Some(taken) = find_in_one(pages, tree.order, &root, key) else {
+    let Some(taken) = find_in_one(pages, tree.order, &root_spot(tree), key) else {
         return None;
     };
     if pages.in_memory(taken.page).is_none() {
@@ -253,21 +227,7 @@ pub fn delete_in_place<S: Store>(
 ) -> Result<(Tree, Option<Record>), TreeFault>
     requires tree { IsTree tree.now }
     requires spelt { AreSpeltIn tree.now.order pages.old }
-    ensures deleted { IsTrue pages.old.steady → (es : List Element) (us : List ℕ)
-        → Holds (at pages.old.pages) tree.now es us
-        → MatchResult result
-        (λ r. Deleted (at pages.old.pages) (at pages.new.pages) tree.now es us key.now r)
-        (MayStop (lookup_in key.now es)) }
-    ensures led { IsTrue pages.old.steady → IfOk result
-        (λ r. LeadsFrom (Spells tree.now.order (at pages.old.pages)) key.now
-        tree.now.height tree.now.root r.1) }
-    ensures smaller { IfOk result (λ r. IsNoLarger tree.now r.0) }
-    ensures spelt { AreSpeltIn tree.now.order pages.new }
-    ensures absent { IfOk result (λ r. r.1 ≡ None → (r.0 ≡ tree.now)
-        × (pages.new.pages ≡ pages.old.pages) × (pages.new.changed ≡ pages.old.changed)) }
-    ensures changed { IfOk result (λ r. IsSome r.1 → pages.new.changed ≡ true) }
-    ensures page_count { length pages.new.pages ≡ length pages.old.pages }
-    ensures stages { Stages (2 * tree.now.height - 1) pages.old result pages.new }
+    ensures { Deletes tree.now key.now pages.old result pages.new }
 {
     if let Some(done) = delete_where_it_lies(pages, tree, key) {
         return Ok(done);

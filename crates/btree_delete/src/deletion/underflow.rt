@@ -5,9 +5,9 @@ ghost use Rattle.btree_node.specs.Joined.{AreBrothers};
 ghost use Rattle.btree_node.specs.Lists.{Each};
 ghost use Rattle.btree_node.specs.Spelling.{IsElement};
 ghost use Rattle.btree_insert.specs.Bounds.{AreWithin, son_bounds};
-ghost use Rattle.btree_insert.specs.Growth.{IsOutside};
+ghost use Rattle.btree_insert.specs.Growth.{IsNotOfPages};
 ghost use Rattle.btree_insert.specs.PageTrees.{Spells, kind_of_level};
-ghost use Rattle.btree_delete.specs.Treatment.{element_at, son_at, both, Treats, brothers};
+ghost use Rattle.btree_delete.specs.Treatment.{element_at, son_number, both, Treats, brothers};
 ghost use Rattle.btree_delete.specs.Shrinking.{MayBeUnderfull, CanTreat, TreatsSon};
 ghost use Rattle.btree_delete.specs.Tidy.{is_visited, so_far, visits};
 ghost use Rattle.btree_node.specs.Layout.{IsOrder};
@@ -94,32 +94,32 @@ pub(crate) fn treat_underflow<S: Store>(
     requires { CanTreat pages.old.pages visited.old.items (so_far edit.old) tree.now father.old i son }
     ensures right { IsTrue pages.old.steady → i < length father.old.elements.items
         → (brother : Node)
-        → Spells tree.now.order (at pages.old.pages) (son_at father.old (suc i)) brother
+        → Spells tree.now.order (at pages.old.pages) (son_number father.old (suc i)) brother
         → brother.kind ≡ kind_of_level (tree.now.height - 1)
         → AreWithin (son_bounds father.old.elements.items (suc i) tree.now.bounds)
         brother.elements.items
-        → is_visited visited.old.items (son_at father.old (suc i)) ≡ false
+        → is_visited visited.old.items (son_number father.old (suc i)) ≡ false
         → MatchResult result
-        (λ _. (visited.new.items ≡ visited.old.items ++ son_at father.old (suc i) ∷ [])
+        (λ _. (visited.new.items ≡ visited.old.items ++ son_number father.old (suc i) ∷ [])
         × Treats tree.now.order father.old father.new (brothers i son brother)
         (so_far edit.old) (so_far edit.new))
-        IsOutside }
+        IsNotOfPages }
     ensures left { IsTrue pages.old.steady → (j : ℕ) → i ≡ suc j
         → i ≡ length father.old.elements.items → (brother : Node)
-        → Spells tree.now.order (at pages.old.pages) (son_at father.old j) brother
+        → Spells tree.now.order (at pages.old.pages) (son_number father.old j) brother
         → brother.kind ≡ kind_of_level (tree.now.height - 1)
         → AreWithin (son_bounds father.old.elements.items j tree.now.bounds) brother.elements.items
-        → is_visited visited.old.items (son_at father.old j) ≡ false
+        → is_visited visited.old.items (son_number father.old j) ≡ false
         → MatchResult result
-        (λ _. (visited.new.items ≡ visited.old.items ++ son_at father.old j ∷ [])
+        (λ _. (visited.new.items ≡ visited.old.items ++ son_number father.old j ∷ [])
         × Treats tree.now.order father.old father.new (brothers j brother son)
         (so_far edit.old) (so_far edit.new))
-        IsOutside }
+        IsNotOfPages }
     ensures father { OnOk result
         (MayBeUnderfull tree.now.order tree.now.height tree.now.bounds father.new) }
     ensures treated { OnOk result
         (TreatsSon pages.old.pages (visits visited.old.items visited.new.items)
-        (so_far edit.old) (so_far edit.new) (son_at father.old i)) }
+        (so_far edit.old) (so_far edit.new) (son_number father.old i)) }
     ensures edit { TakesNone tree.now.order edit.old result edit.new }
     ensures reading { Reads 1 pages.old result pages.new }
 {

@@ -6,15 +6,15 @@ ghost use Rattle.page_store.specs.PageMap.{at};
 ghost use Rattle.btree_node.specs.Lists.{Element};
 ghost use Rattle.btree_node.specs.Layout.{layout_of};
 ghost use Rattle.btree_insert.specs.Sizes.{greatest_height, greatest_size};
-ghost use Rattle.btree_insert.specs.Faults.{is_device};
-ghost use Rattle.btree_insert.specs.Growth.{IsOutside};
+ghost use Rattle.btree_insert.specs.Faults.{is_tree_device};
+ghost use Rattle.btree_insert.specs.Growth.{IsNotOfPages};
 ghost use Rattle.btree_insert.specs.PageTrees.{HoldsIn};
 ghost use Rattle.btree_insert.specs.declared.tree.Tree.{Tree as TreeOf};
 ghost use Rattle.btree_delete.specs.Survey.{CanSurvey, AreKept, height_of, seen_of, IsRooted, WentThrough, Measured, LeavesFile, Surveys};
 
 use crate::opening::free_numbers::free_numbers;
 use crate::opening::survey::{Above, Survey, survey_page};
-use btree_insert::{Bounds, GREATEST_HEIGHT, Tree, TreeFault};
+use btree_insert::{GREATEST_HEIGHT, Tree, TreeFault, UNBOUNDED};
 use page_store::{Pages, Store};
 use std::alloc::Global;
 use std::collections::BTreeSet;
@@ -35,12 +35,12 @@ pub(crate) fn measure_tree<S: Store>(
         (contains nat_cmp r.1) pages.old.reads pages.new.reads) }
     ensures exact { IsTrue pages.old.steady → (tree : TreeOf) (es : List Element) (us : List ℕ)
         → tree.order ≡ order → tree.root ≡ root → HoldsIn (layout_of version) (at pages.old.pages) tree es us
-        → MatchResult result (λ r. r.0 ≡ tree) IsOutside }
+        → MatchResult result (λ r. r.0 ≡ tree) IsNotOfPages }
     ensures left { IfOk result (λ r. LeavesFile (layout_of version) order pages.old pages.new
         (contains nat_cmp r.1)) }
     ensures small { IfOk result (λ r. (r.0.order ≡ order)
         × (r.0.height ≤ greatest_height) × (r.0.used ≤ greatest_size)) }
-    ensures surveys { Surveys version (is_device result) pages.old pages.new }
+    ensures surveys { Surveys version (is_tree_device result) pages.old pages.new }
 {
     let survey = survey_root(alloc, pages, version, order, root)?;
     let height = height_of(survey.leaf());
@@ -80,14 +80,14 @@ fn survey_root<S: Store>(
     ensures exact { IsTrue pages.old.steady → (height : ℕ) (es : List Element) (us : List ℕ)
         → IsRooted (layout_of version) order (at pages.old.pages) root height es us
         → MatchResult result (λ new. new ≡ seen_of (length pages.old.pages) height es us)
-        IsOutside }
+        IsNotOfPages }
     ensures long { IfOk result (λ new. length new.reached ≡ length pages.old.pages) }
     ensures kept { IfOk result
         (λ new. AreKept (layout_of version) order pages.new new.reached) }
     ensures some { 1 ≤ length pages.old.pages }
     ensures most { length pages.old.pages ≤ greatest_page_count }
     ensures header { at pages.old.pages 0 ≡ None }
-    ensures surveys { Surveys version (is_device result) pages.old pages.new }
+    ensures surveys { Surveys version (is_tree_device result) pages.old pages.new }
 {
     let count = pages.page_count() as usize;
     let reached = vec![in alloc; false; count]?;
@@ -98,10 +98,7 @@ fn survey_root<S: Store>(
     let above = Above {
         from: root,
         left: GREATEST_HEIGHT - 1,
-        bounds: Bounds {
-            low: None,
-            high: None,
-        },
+        bounds: UNBOUNDED,
     };
     survey_page(alloc, pages, &mut survey, version, order, 1, root, &above)?;
     Ok(survey)

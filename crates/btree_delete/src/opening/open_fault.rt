@@ -2,7 +2,7 @@ ghost use Rattle.std.specs.Prelude.{◌≡◌, ◌≢◌, ◌⊎◌, ℕ, ◌<�
 ghost use Rattle.btree_node.specs.declared.header.Header.{Header as HeaderValue};
 ghost use Rattle.btree_node.specs.Layout.{IsOrder};
 ghost use Rattle.btree_delete.specs.CleanFile.{HasLength, HasHeader, Agrees, Begins, IsFirst, header_fault};
-ghost use Rattle.btree_delete.specs.Opening.{Asks};
+ghost use Rattle.btree_delete.specs.Opening.{AsksStore};
 
 use btree_insert::GREATEST_PAGE_COUNT;
 use btree_node::{Header, HeaderFault, read_header};
@@ -45,7 +45,7 @@ pub(crate) fn check_length<S: Store>(store: &mut S) -> Result<u32, OpenFault>
     ensures fault { IfErr result (λ fault. (fault ≡ OpenFault.Device)
         ⊎ ((fault ≡ OpenFault.BadLength)
         × (HasLength (S.pages store.old) (S.tail store.old) → ⊥))) }
-    ensures asks { Asks S.StoreState true false store.old result store.new }
+    ensures asks { AsksStore S.StoreState true false store.old result store.new }
 {
     let shape = store.shape().map_err(|_| OpenFault::Device)?;
     if shape.tail != 0 || shape.pages == 0 || shape.pages > u64::from(GREATEST_PAGE_COUNT) {
@@ -82,7 +82,7 @@ pub(crate) fn check_header<S: Store>(store: &mut S, pages: u32) -> Result<Header
     ensures fault { IsTrue (S.steady store.old) → (limit : ℕ) → IfErr result
         (IsFirst (S.pages store.old) (S.tail store.old) limit) }
     ensures no_memory { IfErr result (λ fault. fault ≢ OpenFault.Memory) }
-    ensures asks { Asks S.StoreState false true store.old result store.new }
+    ensures asks { AsksStore S.StoreState false true store.old result store.new }
 {
     let mut page = [0; PAGE_WIDTH];
     store.read(0, &mut page).map_err(|_| OpenFault::Device)?;

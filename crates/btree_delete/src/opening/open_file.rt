@@ -10,7 +10,7 @@ ghost use Rattle.btree_node.specs.Layout.{first_version, layout_of, IsOrder};
 ghost use Rattle.btree_insert.specs.Sizes.{greatest_height, greatest_size};
 ghost use Rattle.btree_insert.specs.Spelt.{AreSpeltIn};
 ghost use Rattle.btree_insert.specs.declared.tree.Tree.{Tree as TreeValue};
-ghost use Rattle.btree_delete.specs.CleanFile.{HasLength, Begins, HasTree, IsCleanFile, IsFirst, FailsTree, Opens, IsOutside, is_device, is_device_fault, tree_fault};
+ghost use Rattle.btree_delete.specs.CleanFile.{HasLength, Begins, HasTree, IsCleanFile, IsFirst, FailsTree, Opens, IsOutside, is_open_device, is_open_device_fault, tree_fault};
 ghost use Rattle.btree_delete.specs.Survey.{stored_page, AreFresh, Measured, LeavesFile, Surveys};
 ghost use Rattle.btree_delete.specs.Opening.{CanFree, Frees};
 
@@ -68,7 +68,7 @@ fn measure_file<S: Store>(
         (contains nat_cmp r.1)) }
     ensures small { IfOk result (λ r. (r.0.order ≡ header.now.order)
         × (r.0.height ≤ greatest_height) × (r.0.used ≤ greatest_size)) }
-    ensures surveys { Surveys header.now.version (is_device result) pages.old pages.new }
+    ensures surveys { Surveys header.now.version (is_open_device result) pages.old pages.new }
 {
     let (tree, free) = measure_tree(
         alloc,
@@ -99,7 +99,7 @@ fn check_file<S: Store>(store: &mut S) -> Result<Header, OpenFault>
     ensures fault { IsTrue (S.steady store.old) → (limit : ℕ) → IfErr result
         (IsFirst (S.pages store.old) (S.tail store.old) limit) }
     ensures no_memory { IfErr result (λ fault. fault ≢ OpenFault.Memory) }
-    ensures asks { OnlyAsks S.StoreState true (is_device result) store.old store.new }
+    ensures asks { OnlyAsks S.StoreState true (is_open_device result) store.old store.new }
     ensures reads { IsOk result → S.reads store.new ≡ counted (S.reads store.old) true }
 {
     let pages = check_length(store)?;
@@ -199,7 +199,7 @@ pub(crate) fn open_file<S: Store>(
     ensures spelt { IfOk result (λ r. AreSpeltIn r.1.order r.0) }
     ensures over { IfOk result (λ r. LiesOver S.StoreState store r.0) }
     ensures no_tail { IfOk result (λ r. r.0.tail ≡ 0) }
-    ensures back { IfErr result (λ stop. OnlyAsks S.StoreState true (is_device_fault stop.fault)
+    ensures back { IfErr result (λ stop. OnlyAsks S.StoreState true (is_open_device_fault stop.fault)
         store stop.store) }
 {
     let mut store = store;

@@ -7,11 +7,11 @@ ghost use Rattle.btree_node.specs.Spelling.{CanStandIn, spelling, spelling_in, I
 ghost use Rattle.btree_node.specs.declared.node.Node.{Node};
 ghost use Rattle.btree_node.specs.Layout.{first_layout, first_version, layout_of, most_keys, IsSmallOrder};
 ghost use Rattle.btree_insert.specs.Bounds.{AreWithin, Between};
-ghost use Rattle.btree_insert.specs.Faults.{is_device};
+ghost use Rattle.btree_insert.specs.Faults.{is_tree_device};
 ghost use Rattle.btree_insert.specs.PageTrees.{SpellsIn, Spells};
-ghost use Rattle.btree_insert.specs.Growth.{IsOutside};
+ghost use Rattle.btree_insert.specs.Growth.{IsNotOfPages};
 ghost use Rattle.btree_insert.specs.Spelt.{AreSpeltIn};
-ghost use Rattle.btree_delete.specs.Survey.{SeenSoFar, unreached, AreKept, stored_page, after, below_page, below_sons, Sound, Surveyed, allowed, StandsWithin, Surveys, node_in, Respells, WasRead, sons_from, elements_from};
+ghost use Rattle.btree_delete.specs.Survey.{SeenSoFar, unreached, AreKept, stored_page, seen_past, below_page, below_sons, Sound, Surveyed, allowed, StandsWithin, Surveys, node_in, Respells, WasRead, sons_from, elements_from};
 ghost use Rattle.btree_insert.specs.Edits.{ReadsOnce};
 
 use btree_insert::{Bounds, TreeFault, is_page_within};
@@ -300,14 +300,14 @@ pub(crate) fn survey_page<S: Store>(
     ensures exact { IsTrue pages.old.steady → (h level : ℕ) (es : List Element) (us : List ℕ)
         → Sound (below_page (layout_of version) order (stored_page pages.old) least n)
         (allowed above.now.left above.now.bounds) survey.old h level es us
-        → MatchResult result (λ _. survey.new ≡ after level es us survey.old)
-        IsOutside }
+        → MatchResult result (λ _. survey.new ≡ seen_past level es us survey.old)
+        IsNotOfPages }
     ensures kept { OnOk result
         (AreKept (layout_of version) order pages.new survey.new.reached) }
     ensures room { OnOk result (survey.new.keys + most_keys * unreached survey.new.reached
         ≤ survey.old.keys + most_keys * unreached survey.old.reached) }
     ensures long { length survey.new.reached ≡ length survey.old.reached }
-    ensures surveys { Surveys version (is_device result) pages.old pages.new }
+    ensures surveys { Surveys version (is_tree_device result) pages.old pages.new }
 {
     if !survey.reach(n) {
         return Err(TreeFault::Damaged(above.from));
@@ -365,15 +365,15 @@ fn survey_sons<S: Store>(
         → Sound (below_sons (layout_of version) order (stored_page pages.old)
         (sons_from order page.now i) (elements_from order page.now i))
         (allowed above.now.left above.now.bounds) survey.old h level es us
-        → MatchResult result (λ _. survey.new ≡ after level es us survey.old)
-        IsOutside }
+        → MatchResult result (λ _. survey.new ≡ seen_past level es us survey.old)
+        IsNotOfPages }
     ensures kept { OnOk result
         (AreKept (layout_of version) order pages.new survey.new.reached) }
     ensures room { OnOk result (survey.new.keys + most_keys * unreached survey.new.reached
         ≤ survey.old.keys + length (elements_from order page.now i)
         + most_keys * unreached survey.old.reached) }
     ensures long { length survey.new.reached ≡ length survey.old.reached }
-    ensures surveys { Surveys version (is_device result) pages.old pages.new }
+    ensures surveys { Surveys version (is_tree_device result) pages.old pages.new }
 {
     let son = son_in(page, order, i);
     if i == count_in(page) {

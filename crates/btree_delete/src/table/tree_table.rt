@@ -9,9 +9,9 @@ ghost use Rattle.page_store.specs.FreeNumbers.{free_numbers};
 ghost use Rattle.btree_node.specs.Lists.{Element};
 ghost use Rattle.btree_node.specs.declared.header.Header.{Header as HeaderValue};
 ghost use Rattle.btree_insert.specs.declared.tree.Tree.{Tree as TreeValue};
-ghost use Rattle.btree_delete.specs.CleanFile.{IsCleanFile, IsFirst, Opens, IsOutside, is_device_fault};
+ghost use Rattle.btree_delete.specs.CleanFile.{IsCleanFile, IsFirst, Opens, IsOutside, is_open_device_fault};
 ghost use Rattle.page_store.specs.Guards.{AllowsAll};
-ghost use Rattle.page_store.specs.Journal.{noted, NotesFront};
+ghost use Rattle.page_store.specs.Journal.{noted_steps, NotesFront};
 ghost use Rattle.page_store.specs.PagesView.{with_reads};
 ghost use Rattle.page_store.specs.StoreCalls.{StaysStore};
 ghost use Rattle.page_store.specs.StoreUnder.{IsStoreOf, LiesOver, OnlyAsks};
@@ -184,7 +184,7 @@ impl<S: Store> TreeTable<S> {
         ensures no_tail { IfOk result (λ t. t.pages.tail ≡ 0) }
         ensures uncalled { IfOk result (λ t. IsUncalled limits.records t) }
         ensures back { IfErr result (λ stop. OnlyAsks S.StoreState true
-            (is_device_fault stop.fault) store stop.store) }
+            (is_open_device_fault stop.fault) store stop.store) }
     {
         let limit = limits.records();
         let (pages, tree) = open_file(alloc, store, limits)?;
@@ -213,7 +213,7 @@ impl<S: Store> TreeTable<S> {
             (λ store. S.guard store ≡ self.pages.guard)
             (λ stop. stop.table.pages.guard ≡ self.pages.guard) }
         ensures journal { MatchResult result
-            (λ store. S.journal store ≡ noted self.pages.journal (closing self))
+            (λ store. S.journal store ≡ noted_steps self.pages.journal (closing self))
             (λ stop. NotesFront (closing self) self.pages.journal stop.table.pages.journal) }
         ensures stops { StopsAnywhere (closing self) }
         ensures fault { IfErr result (λ stop. IsUnclosed self stop.fault stop.table) }

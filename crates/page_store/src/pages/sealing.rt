@@ -4,7 +4,7 @@ ghost use Rattle.rec_types.specs.Table.{counted};
 ghost use Rattle.page_store.specs.Guards.{Ascend, SealsGuard};
 ghost use Rattle.page_store.specs.Overlaid.{slots_of};
 ghost use Rattle.page_store.specs.PagesView.{is_in_memory};
-ghost use Rattle.page_store.specs.WriteFaults.{by_device};
+ghost use Rattle.page_store.specs.WriteFaults.{write_by_device};
 ghost use Rattle.page_store.specs.WritingBack.{to_write};
 
 use super::Pages;
@@ -51,7 +51,7 @@ impl<S: SealStore> Pages<S> {
           guard = self.new.guard;
         } }
         ensures asked { OnOk result (self.new.reads ≡ counted self.old.reads true) }
-        ensures device { self.new.failures ≡ counted self.old.failures (by_device result) }
+        ensures device { self.new.failures ≡ counted self.old.failures (write_by_device result) }
         ensures guard { self.old.tail ≡ 0
             → SealsGuard (λ n. n == 0 || is_in_memory self.old n) (length self.old.stored)
             self.old.guard result self.new.guard }

@@ -1,4 +1,5 @@
 ghost use Rattle.std.specs.Prelude.{◌≡◌, List, Result, Ok, IsTrue, IfOk, IfErr, map};
+ghost use Rattle.std.specs.FinMap as maps;
 ghost use Rattle.rec_types.specs.Told.{TakesPart};
 ghost use Rattle.rec_types.specs.declared.transaction.Entry.{Entry as EntryValue};
 ghost use Rattle.record_file.specs.Abstract.{IsKeptFile};
@@ -100,6 +101,13 @@ impl<T: Table> RecordFile<T> {
             (T.record_limit self.now.table) self.now.file self.now.log }
     {
         self.log.begun()
+    }
+
+    /// How many transactions are open.
+    pub fn open_count(&self) -> u32
+        ensures { result ≡ maps.len self.now.file.txs }
+    {
+        self.log.open_count()
     }
 
     /// How many keys have a record or an owner. A table that isn't sound may count anything. It takes no

@@ -3,7 +3,7 @@ ghost use Rattle.std.specs.FinMap as maps;
 ghost use Rattle.rec_types.specs.History.{undo_last};
 ghost use Rattle.rec_types.specs.Table.{counted};
 ghost use Rattle.rec_types.specs.Answered.{Answered};
-ghost use Rattle.record_file.specs.Abstract.{tx_of, phase_at, with_txs};
+ghost use Rattle.record_file.specs.Abstract.{tx_of, phase_at, with_open_txs};
 ghost use Rattle.tx_log.specs.Transactions.{depth_of, left_in};
 ghost use Rattle.tx_log.specs.LogState.{rolling_to, finished, IsRolling};
 ghost use Rattle.record_file.specs.Outside.{by_memory, NeverDamaged};
@@ -84,7 +84,7 @@ impl<T: Table> RecordFile<T> {
         requires active { phase_at self.old.file tx.0 ≡ Some Phase.Active }
         requires within { n ≤ depth_of (tx_of self.old.file tx.0) }
         requires whole { IsTrue ends → n ≡ 0 }
-        ensures { self.new ≡ with_txs self.old (maps.insert self.old.file.txs tx.0
+        ensures { self.new ≡ with_open_txs self.old (maps.insert self.old.file.txs tx.0
             (rolling_to (places_at self.old.file tx.0) n ends)) }
     {
         self.log.start_rollback(tx, n, ends);
@@ -146,7 +146,7 @@ impl<T: Table> RecordFile<T> {
     fn finish(&mut self, tx: TxId)
         requires rolling { IsRolling (phase_at self.old.file tx.0) }
         requires done { left_in self.old.file.history tx.0 (tx_of self.old.file tx.0) ≡ 0 }
-        ensures { self.new ≡ with_txs self.old
+        ensures { self.new ≡ with_open_txs self.old
             (finished self.old.file.txs tx.0 (tx_of self.old.file tx.0)) }
     {
         self.log.finish(tx);

@@ -2,7 +2,7 @@ ghost use Rattle.std.specs.Prelude.{◌≡◌, ◌==◌, ◌||◌, ℕ, false, l
 ghost use Rattle.rec_types.specs.Table.{counted};
 ghost use Rattle.page_store.specs.Guards.{AllowsAll, SealsGuard, Unsealed};
 ghost use Rattle.page_store.specs.PagesView.{is_in_memory};
-ghost use Rattle.page_store.specs.WriteFaults.{by_device};
+ghost use Rattle.page_store.specs.WriteFaults.{write_by_device};
 ghost use Rattle.btree_delete.specs.Closing.{closing};
 
 use super::TreeTable;
@@ -23,7 +23,7 @@ impl<S: SealStore> TreeTable<S> {
         ensures asked { OnOk result (self.new.pages.reads
             ≡ counted self.old.pages.reads self.old.pages.changed) }
         ensures device { self.new.pages.failures
-            ≡ counted self.old.pages.failures (by_device result) }
+            ≡ counted self.old.pages.failures (write_by_device result) }
         ensures idle { self.old.pages.changed ≡ false
             → IsOk result × (self.new.pages.guard ≡ self.old.pages.guard) }
         ensures guard { IsTrue self.old.pages.changed → self.old.pages.tail ≡ 0 → SealsGuard

@@ -1,14 +1,14 @@
-use Rattle.std.proofs.Common.{sym, subst, arith}
+use Rattle.std.proofs.Common.{rules, arith}
 use Rattle.page_store.specs.PageMap.{at}
-use Rattle.btree_insert.specs.declared.step.Spot.{Spot}
-use Rattle.btree_insert.specs.Bounds.{Between}
-use Rattle.btree_insert.specs.PageTrees.{TreeAt}
-use Rattle.btree_insert.proofs.HeadNodeLemmas.{root_tree}
-use Rattle.btree_insert.proofs.BoundLemmas.{Between-all}
+use Rattle.btree_insert.proofs.RootSpotLemmas.{spot_tree}
 use Rattle.btree_insert.proofs.finding.look_up.Goals as goal
 
-pub returns-clause-found : goal.returns-clause-found
-returns-clause-found g c = λ steady es us holds.
-    let root = subst (λ (spot : Spot). TreeAt c.args.tree.now.order (at c.args.pages.now.pages) 1 spot.level spot.page es us × Between spot.bounds es) (sym c.root_of.ensures)
-    (root_tree _ _ c.args.tree.now.height _ es us (omega arith) holds.tree, Between-all es holds.ascends) in
-    c.look_up_below.ensures.found steady 1 es us root.0 root.1
+pub returns : goal.returns
+returns g c = record {
+  found = λ steady es us holds.
+      let root = spot_tree c.root_spot.result c.args.tree.now (at c.args.pages.now.pages) es us c.root_spot.ensures (omega arith) holds in
+      c.look_up_below.ensures.found steady 1 es us root.0 root.1;
+  led = search rules;
+  leads = search rules;
+  reading = search rules;
+}

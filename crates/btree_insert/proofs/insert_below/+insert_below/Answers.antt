@@ -7,7 +7,7 @@ use Rattle.std.proofs.lemmas.Result.{err_from_is_err_and}
 use Rattle.std.specs.List.{list_any}
 use Rattle.page_store.specs.FreeNumbers.{candidate}
 use Rattle.page_store.specs.PagesView.{PagesView}
-use Rattle.page_store.specs.PageMap.{PageMap, at, overlay}
+use Rattle.page_store.specs.PageMap.{PageMap, at, pages_with}
 use Rattle.btree_node.specs.Lists.{Element, IsAt, IsPlace}
 use Rattle.btree_node.specs.Spelling.{spelling}
 use Rattle.btree_node.specs.declared.node.Node.{Node}
@@ -17,7 +17,7 @@ use Rattle.btree_insert.specs.declared.insert_below.Grown.{Grown}
 use Rattle.btree_insert.specs.declared.insert_below.Grown.TheVariants.{Replaced, Split}
 use Rattle.btree_insert.specs.declared.bounds.Bounds.{Bounds}
 use Rattle.btree_insert.specs.Bounds.{Between, son_bounds}
-use Rattle.btree_insert.specs.Growth.{MayBeOverfull, IsOutside, IsWithin, Grew, SplitGoesUp, WritesOrSplits, TakesNumbers, WritesFit, MayGain, MayGainSon, with_son, replaced}
+use Rattle.btree_insert.specs.Growth.{MayBeOverfull, IsNotOfPages, IsWithin, Grew, SplitGoesUp, WritesOrSplits, TakesNumbers, WritesFit, MayGain, MayGainSon, with_son, replaced}
 use Rattle.btree_insert.specs.PageTrees.{Apart, Spells, TreeAt, kind_of_level, tree_below}
 use Rattle.btree_insert.specs.Reached.{Leads}
 use Rattle.btree_insert.specs.Spelt.{AreSpeltIn}
@@ -123,7 +123,7 @@ returns-in_err-i-clause-grew g t c = λ steady none least es us tree between apa
     let spot = c.args.spot.now in
     let p = err_from_is_err_and c.from_residual.result c.from_residual.ensures.1 in
     let head = top c.args.order (at c.args.pages.now.pages) least spot.level (spot.level - 1) spot.page es us spot.bounds (omega (arith, c.requires.can.search.level)) tree between in
-    rw (p.1, p.2) (subst IsOutside (sym (c.in_err-i.ensures.exact steady head.0 head.1.spells (record { kind = head.1.kind; within = head.1.within }))) tt)
+    rw (p.1, p.2) (subst IsNotOfPages (sym (c.in_err-i.ensures.exact steady head.0 head.1.spells (record { kind = head.1.kind; within = head.1.within }))) tt)
 
 pub write_replaced-requires-clause-page : goal.write_replaced-requires-clause-page
 write_replaced-requires-clause-page g t c =
@@ -323,8 +323,8 @@ returns-in_ok-put_in_father-in-Split-clause-grew g t c = λ steady none least es
     let m = longer_father g t p in
     let steps = goes_down g t p in
     let head = head_of g t place.In_ok-i steady least es us tree between in
-    let son = son_of g t place.In-Goes (overlay (at c.args.pages.now.pages) c.insert_below.new.edit.writes.items) least es us between head in
-    let known = son_known g t place.In-Goes (overlay (at c.args.pages.now.pages) c.insert_below.new.edit.writes.items) es us head.below head.us_is apart unvisited son in
+    let son = son_of g t place.In-Goes (pages_with (at c.args.pages.now.pages) c.insert_below.new.edit.writes.items) least es us between head in
+    let known = son_known g t place.In-Goes (pages_with (at c.args.pages.now.pages) c.insert_below.new.edit.writes.items) es us head.below head.us_is apart unvisited son in
     let call = c.in_ok-done-in-Goes.ensures.grew (ap (λ (v : PagesView). v.steady) c.take_step.ensures.reading.unchanged ∙ steady) none k son.xs son.mine known.tree known.between known.apart known.unvisited in
     let grew = grew_below g t place.In_ok-done-in-Goes s.node steps.2 son.xs son.mine call in
     let size = length-insert s.node.elements.items c.in-Goes.i c.in-Split.middle (split_among g t p).within in
@@ -365,11 +365,11 @@ returns-in_default g t c = record {
       let place = goal.at.returns-in_default g t c in
       let steps = way_down g t place.In-Goes in
       let head = head_of g t place.In_ok-i steady least es us tree between in
-      let son = son_of g t place.In-Goes (overlay (at c.args.pages.now.pages) c.insert_below.new.edit.writes.items) least es us between head in
-      let known = son_known g t place.In-Goes (overlay (at c.args.pages.now.pages) c.insert_below.new.edit.writes.items) es us head.below head.us_is apart unvisited son in
+      let son = son_of g t place.In-Goes (pages_with (at c.args.pages.now.pages) c.insert_below.new.edit.writes.items) least es us between head in
+      let known = son_known g t place.In-Goes (pages_with (at c.args.pages.now.pages) c.insert_below.new.edit.writes.items) es us head.below head.us_is apart unvisited son in
       let call = c.in_ok-done-in-Goes.ensures.grew (ap (λ (v : PagesView). v.steady) c.take_step.ensures.reading.unchanged ∙ steady) none k son.xs son.mine known.tree known.between known.apart known.unvisited in
       let grew = grew_below g t place.In_ok-done-in-Goes s.node steps.2 son.xs son.mine call in
-      grow_stays k (at c.args.pages.now.pages) (overlay (at c.args.pages.now.pages) c.insert_below.new.edit.writes.items) (candidate c.args.pages.now.pages) c.args.edit.now.taken c.insert_below.new.edit.taken least spot.level (spot.level - 1) spot.page es us spot.bounds s.node c.args.element.0 c.args.element.1 c.in-Goes.i c.in_ok-done-in-Goes.done
+      grow_stays k (at c.args.pages.now.pages) (pages_with (at c.args.pages.now.pages) c.insert_below.new.edit.writes.items) (candidate c.args.pages.now.pages) c.args.edit.now.taken c.insert_below.new.edit.taken least spot.level (spot.level - 1) spot.page es us spot.bounds s.node c.args.element.0 c.args.element.1 c.in-Goes.i c.in_ok-done-in-Goes.done
       (omega (arith, c.requires.can.search.level)) (omega (arith, steps.0)) (candidates_free c.args.pages.now.pages) (in_use k (at c.args.pages.now.pages) least spot.level spot.page es us tree) apart head son c.in_default.not-Split grew;
   led = λ steady.
       let place = goal.at.returns-in_default g t c in

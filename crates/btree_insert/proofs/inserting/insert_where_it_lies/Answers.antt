@@ -1,19 +1,18 @@
-use Rattle.std.proofs.Common.{rules, ◌≡◌, ◌-◌, ℕ, IsTrue, List, Option, Some, None, is_none, false, refl, ap, sym, ◌∙◌, subst, arith}
+use Rattle.std.proofs.Common.{rules, ◌≡◌, ℕ, IsTrue, List, Option, Some, None, is_none, false, refl, ap, sym, ◌∙◌, subst, arith}
 use Rattle.page_store.specs.FreeNumbers.{candidate}
 use Rattle.page_store.specs.PageMap.{at, write_page}
 use Rattle.page_store.specs.ChangedPage.{BecomesAt}
 use Rattle.btree_node.specs.declared.page_change.PageChange.{PageChange}
 use Rattle.btree_node.specs.Lists.{Element}
+use Rattle.btree_insert.specs.declared.step.Spot.{Spot}
 use Rattle.btree_insert.specs.declared.tree.Tree.{Tree}
 use Rattle.btree_insert.specs.Growth.{Grew, in_one}
 use Rattle.btree_insert.specs.Spelt.{AreSpeltIn, CanChange}
 use Rattle.btree_insert.proofs.SpeltLemmas.{some_found, found_there, spelt_changed}
 use Rattle.btree_insert.specs.PageTrees.{Holds, Spells, tree_below}
 use Rattle.btree_insert.specs.Reached.{LeadsFrom}
-use Rattle.btree_insert.proofs.ReachLemmas.{leads_from}
 use Rattle.btree_insert.specs.PagesGrown.{written_over}
-use Rattle.btree_insert.proofs.BoundLemmas.{Between-all}
-use Rattle.btree_insert.proofs.HeadNodeLemmas.{root_tree}
+use Rattle.btree_insert.proofs.RootSpotLemmas.{spot_tree, spot_leads}
 use Rattle.btree_insert.proofs.InsertionLemmas.{inserted_at, next_inserted}
 use Rattle.btree_insert.proofs.inserting.insert_where_it_lies.Given as given
 use Rattle.btree_insert.proofs.inserting.insert_where_it_lies.Goals as goal
@@ -24,10 +23,11 @@ module _ (g : given.Over) (c : After-change g) where
   grew_by : IsTrue c.args.pages.now.steady → (es : List Element) (us : List ℕ) → Holds (at c.args.pages.now.pages) c.args.tree.now es us → (old : Option (List ℕ)) → c.in-Some.placed.old ≡ old
       → Grew (tree_below c.args.tree.now.order 1 c.args.tree.now.height c.args.tree.now.root) (written_over c.args.pages.now.pages c.in-Some.placed.page c.change.ensures.pages.page) es us c.args.element.0 c.args.element.1 (in_one old)
   grew_by steady es us holds old is =
-      let tree = root_tree c.args.tree.now.order (at c.args.pages.now.pages) c.args.tree.now.height c.args.tree.now.root es us (omega (arith, c.if-tree-eq0.false)) holds.tree in
+      let root = spot_tree c.root_spot.result c.args.tree.now (at c.args.pages.now.pages) es us c.root_spot.ensures (omega (arith, c.if-tree-eq0.false)) holds in
       let becomes = subst (λ (change : PageChange). BecomesAt c.args.tree.now.order c.in-Some.placed.page change c.args.pages.now.pages c.change.ensures.pages.page) c.change_of.ensures c.change.ensures.pages.changed in
-      subst (λ (o : Option (List ℕ)). Grew (tree_below c.args.tree.now.order 1 c.args.tree.now.height c.args.tree.now.root) (written_over c.args.pages.now.pages c.in-Some.placed.page c.change.ensures.pages.page) es us c.args.element.0 c.args.element.1 (in_one o)) is
-      (c.in-Some.ensures.grew steady 1 es us tree (Between-all es holds.ascends) holds.apart c.change.ensures.pages.page becomes)
+      let call = c.in-Some.ensures.grew steady 1 es us root.0 root.1 holds.apart c.change.ensures.pages.page becomes in
+      let from_root = subst (λ (s : Spot). Grew (tree_below c.args.tree.now.order 1 s.level s.page) (written_over c.args.pages.now.pages c.in-Some.placed.page c.change.ensures.pages.page) es us c.args.element.0 c.args.element.1 (in_one c.in-Some.placed.old)) c.root_spot.ensures call in
+      subst (λ (o : Option (List ℕ)). Grew (tree_below c.args.tree.now.order 1 c.args.tree.now.height c.args.tree.now.root) (written_over c.args.pages.now.pages c.in-Some.placed.page c.change.ensures.pages.page) es us c.args.element.0 c.args.element.1 (in_one o)) is from_root
 
 -- its pages in memory
 module _ (g : given.Over) (c : After-change g) where
@@ -65,7 +65,7 @@ pub returns-in-None-clause-led : goal.returns-in-None-clause-led
 returns-in-None-clause-led g c = λ steady.
     let tree = c.args.tree.now in
     subst (LeadsFrom (Spells tree.order (at c.args.pages.now.pages)) c.args.element.0 tree.height tree.root) c.in-None.is
-    (leads_from (Spells tree.order (at c.args.pages.now.pages)) c.args.element.0 tree.height (tree.height - 1) tree.root c.in-Some.placed.old (omega (arith, c.if-tree-eq0.false)) (c.in-Some.ensures.led steady))
+    (spot_leads (Spells tree.order (at c.args.pages.now.pages)) c.args.element.0 c.root_spot.result tree c.in-Some.placed.old c.root_spot.ensures (omega (arith, c.if-tree-eq0.false)) (c.in-Some.ensures.led steady))
 
 pub returns-in-Some-old-clause-spelt : goal.returns-in-Some-old-clause-spelt
 returns-in-Some-old-clause-spelt g c =

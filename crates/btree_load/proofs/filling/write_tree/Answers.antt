@@ -2,8 +2,8 @@ use Rattle.std.proofs.Common.{◌≡◌, ◌<◌, [], ℕ, List, suc, length, ve
 use Rattle.btree_node.specs.declared.node.NodeKind.TheVariants.{Inner}
 use Rattle.btree_node.specs.Lists.{Element}
 use Rattle.btree_insert.proofs.SonsLemmas.{nonempty}
-use Rattle.btree_load.specs.Filling.{written}
-use Rattle.btree_load.specs.Rows.{HasRoom, wide, StandsFor, AreFewest}
+use Rattle.btree_load.specs.Filling.{written_pages}
+use Rattle.btree_load.specs.Rows.{HasLevelRoom, wide, NodeStandsFor, AreFewest}
 use Rattle.btree_load.proofs.FillLemmas.{fills_any, fills_then, same_then}
 use Rattle.btree_load.proofs.TreeLemmas.{Rows, level_above, many_left, levels_first, levels_rest, levels_done, root_of, is_none, is_some}
 use Rattle.btree_load.proofs.filling.write_tree.Goals as goal
@@ -40,15 +40,15 @@ loop-alloc-preserved g c =
     let long : length els ≡ length old.between.items = ap length c.deref.ensures.value in
     let some : 0 < length old.between.items = omega (arith, is_some (vec_len old.between) c.loop-alloc-test.ensures, old.between.ok.0) in
     let fewest = subst (λ (n : ℕ). AreFewest k n (length row.sons.items)) long ok.fewest in
-    let stored = written g.S.StoreState c.loop-alloc.count c.loop-alloc.store in
+    let stored = written_pages g.S.StoreState c.loop-alloc.count c.loop-alloc.store in
     record {
       stands = ok.wide;
       rows = λ steady.
           let below : Rows k stored (wide Inner old.between.items old.sons.items) records = i.rows steady in
           let above = level_above k stored old.between.items old.sons.items records some below in
-          let stands : StandsFor k stored (suc below.h) (wide Inner els sons) records above.0 =
-          subst (λ (bs : List Element). StandsFor k stored (suc below.h) (wide Inner bs sons) records above.0) (sym c.deref.ensures.value)
-          (subst (λ (ss : List ℕ). StandsFor k stored (suc below.h) (wide Inner old.between.items ss) records above.0) (sym c.deref-in-loop-alloc.ensures.value) above.1) in
+          let stands : NodeStandsFor k stored (suc below.h) (wide Inner els sons) records above.0 =
+          subst (λ (bs : List Element). NodeStandsFor k stored (suc below.h) (wide Inner bs sons) records above.0) (sym c.deref.ensures.value)
+          (subst (λ (ss : List ℕ). NodeStandsFor k stored (suc below.h) (wide Inner old.between.items ss) records above.0) (sym c.deref-in-loop-alloc.ensures.value) above.1) in
           let still = i.fills.steady ∙ steady in
           record {
             h = suc below.h;
@@ -62,7 +62,7 @@ loop-alloc-preserved g c =
 
 pub returns-clause-tree : goal.returns-clause-tree
 returns-clause-tree g c = λ steady.
-    root_of c.args.k (written g.S.StoreState c.loop-alloc.count c.loop-alloc.store) c.loop-alloc.row.between.items c.loop-alloc.row.sons.items c.args.records.now c.index.result.now (omega (arith, is_none (vec_len c.loop-alloc.row.between) c.loop-alloc-test.ensures, c.loop-alloc.row.between.ok.0)) c.loop-alloc.invariant.stands.sons.0 c.index.ensures (c.loop-alloc.invariant.rows steady)
+    root_of c.args.k (written_pages g.S.StoreState c.loop-alloc.count c.loop-alloc.store) c.loop-alloc.row.between.items c.loop-alloc.row.sons.items c.args.records.now c.index.result.now (omega (arith, is_none (vec_len c.loop-alloc.row.between) c.loop-alloc-test.ensures, c.loop-alloc.row.between.ok.0)) c.loop-alloc.invariant.stands.sons.0 c.index.ensures (c.loop-alloc.invariant.rows steady)
 
 pub returns-clause-all : goal.returns-clause-all
 returns-clause-all g c =
@@ -75,7 +75,7 @@ write_row-requires-clause-room g c =
 pub write_row-requires-in-loop-alloc-clause-room : goal.write_row-requires-in-loop-alloc-clause-room
 write_row-requires-in-loop-alloc-clause-room g c =
     let old = c.loop-alloc.row in
-    subst (λ (n : ℕ). HasRoom g.S.StoreState c.args.k c.loop-alloc.count n c.loop-alloc.store) (sym (ap length c.deref.ensures.value))
+    subst (λ (n : ℕ). HasLevelRoom g.S.StoreState c.args.k c.loop-alloc.count n c.loop-alloc.store) (sym (ap length c.deref.ensures.value))
     (levels_first g.S.StoreState c.args.k c.loop-alloc.count (length old.between.items) c.loop-alloc.store (omega (arith, is_some (vec_len old.between) c.loop-alloc-test.ensures, old.between.ok.0)) c.loop-alloc.invariant.room)
 
 pub returns-then-is_empty-clause-all : goal.returns-then-is_empty-clause-all

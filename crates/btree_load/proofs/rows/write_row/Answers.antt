@@ -4,7 +4,7 @@ use Rattle.btree_node.specs.declared.node.NodeKind.TheVariants.{Inner}
 use Rattle.btree_node.specs.Cut.{left_of}
 use Rattle.btree_node.specs.Lists.{Element, Each}
 use Rattle.btree_node.specs.Spelling.{spelling, CanStand, IsElement, IsSon}
-use Rattle.btree_load.specs.Filling.{written}
+use Rattle.btree_load.specs.Filling.{written_pages}
 use Rattle.btree_load.specs.Rows.{wide, from, IsWide, IsRow}
 use Rattle.btree_load.proofs.FillLemmas.{none_yet, fills_then, same_length, same_then, written_long}
 use Rattle.btree_load.proofs.RowLemmas.{has_next, Progress, IsFront, row_begins, row_step, row_ends, front_begins, front_step, front_ends, page_stands, last_stands, Fullness, full_begins, full_step, longer}
@@ -18,7 +18,7 @@ loop-at-init g c = record {
   full = full_begins c.args.k (length c.args.elements.now) c.new-2.result.items c.new-2.ensures.items;
   count = omega (arith, ap length c.new-2.ensures.items);
   same = same_length g.S.StoreState c.args.store.now;
-  progress = λ steady least h es us low enough stands. row_begins c.args.k (written g.S.StoreState c.args.count.now c.args.store.now) least h c.args.kind c.args.elements.now es c.new-2.result.items c.args.sons.now us c.new.result.items c.new.ensures.items c.new-2.ensures.items stands;
+  progress = λ steady least h es us low enough stands. row_begins c.args.k (written_pages g.S.StoreState c.args.count.now c.args.store.now) least h c.args.kind c.args.elements.now es c.new-2.result.items c.args.sons.now us c.new.result.items c.new.ensures.items c.new-2.ensures.items stands;
   fills = none_yet g.S.StoreState c.args.store.now;
 }
 
@@ -46,8 +46,8 @@ loop-at-preserved g c =
     let long = written_long g.S.StoreState c.loop-at.count 1 c.loop-at.store has in
     let page_is : c.encode-page.result ≡ spelling (left_of size (from at all)) k = c.encode-page.ensures ∙ ap (λ (n : Node). spelling n k) c.node_of.ensures.same in
     let fits : CanStand (left_of size (from at all)) k = page_stands k at size all (subst (λ (n : Node). Each IsElement n.elements.items) c.node_of.ensures.same c.node_of.ensures.fit) some share.most low c.requires.wide in
-    let stored = written g.S.StoreState c.loop-at.count c.loop-at.store in
-    let new = written g.S.StoreState c.append_page.new.count c.append_page.new.store in
+    let stored = written_pages g.S.StoreState c.loop-at.count c.loop-at.store in
+    let new = written_pages g.S.StoreState c.append_page.new.count c.append_page.new.store in
     record {
       within = omega (arith, low);
       enough = inr (omega (arith, share.next, i.within));
@@ -96,8 +96,8 @@ returns-clause-row g c = λ steady least h es us few enough stands.
     let q = c.in_ok-append_page-2.field-0 in
     let has = has_next g.S.StoreState k (length c.args.elements.now) at (length c.loop-at.row.between.items) c.args.count.now c.loop-at.count c.args.store.now c.loop-at.store c.requires.room i.same i.count i.full i.within in
     let long = written_long g.S.StoreState c.loop-at.count 1 c.loop-at.store has in
-    let stored = written g.S.StoreState c.loop-at.count c.loop-at.store in
-    let new = written g.S.StoreState c.append_page-2.new.count c.append_page-2.new.store in
+    let stored = written_pages g.S.StoreState c.loop-at.count c.loop-at.store in
+    let new = written_pages g.S.StoreState c.append_page-2.new.count c.append_page-2.new.store in
     let page_is : c.encode-page-2.result ≡ spelling (left_of size (from at all)) k = c.encode-page-2.ensures ∙ ap (λ (n : Node). spelling n k) c.node_of-2.ensures.same in
     let new_is : new ≡ stored ++ spelling (left_of size (from at all)) k ∷ [] = ok.pages (i.fills.steady ∙ steady) ∙ ap (λ (page : List ℕ). stored ++ page ∷ []) page_is in
     let some : 0 < size = ⊎_elim (λ (is : at ≡ 0). omega (arith, is, c.requires.some)) (λ (far : at + k ≤ length c.args.elements.now). omega (arith, far, c.requires.order.0)) i.enough in

@@ -1,5 +1,5 @@
 use Rattle.std.proofs.Common.{◌≡◌, ◌∙◌, ap, sym, subst, arith, ℕ, List, take, Some, IsTrue}
-use Rattle.page_journal.specs.Files.{PageFile, Kept, restored, put_back}
+use Rattle.page_journal.specs.Files.{PageFile, SideFile, restored, put_back}
 use Rattle.page_journal.specs.Steps.{side_shape}
 use Rattle.page_journal.specs.Crash.{IsSettled, IsSealed}
 use Rattle.page_journal.proofs.RestoreLemmas.{cut_is, restores_same}
@@ -10,14 +10,14 @@ use Rattle.page_journal.proofs.LogLemmas.{logs_begin, logs_cut, logs_then}
 use Rattle.page_journal.proofs.recovering.put_back.Goals as goal
 use Rattle.page_journal.proofs.recovering.put_back.Goals.{After-cut, After-put_pages, In_ok-put_pages}
 
-module _ (g : given.Over) (c : After-cut g) (kept : Kept) (base : List (List ℕ)) (shape : side_shape (Some kept) ≡ Some c.args.side) (sealed : IsSealed g.D.DiskState kept base c.args.disk.now) where
+module _ (g : given.Over) (c : After-cut g) (kept : SideFile) (base : List (List ℕ)) (shape : side_shape (Some kept) ≡ Some c.args.side) (sealed : IsSealed g.D.DiskState kept base c.args.disk.now) where
   cut_down : Holds g.D.DiskState kept base c.args.disk.now c.cut.new.self
   cut_down =
       let d = g.D.DiskState in
       let old = c.args.disk.now in
       holds_cut d kept base c.args.side.long old old c.cut.new.self (holds_begin d kept base old (g.met.D.Disk.only_now old) sealed) (omega (arith, (shape_parts kept c.args.side shape).0)) c.cut.ensures.does.0
 
-module _ (g : given.Over) (c : After-put_pages g) (st : IsTrue (g.D.DiskState.steady c.args.disk.now)) (kept : Kept) (base : List (List ℕ)) (shape : side_shape (Some kept) ≡ Some c.args.side) (cut : Holds g.D.DiskState kept base c.args.disk.now c.cut.new.self) where
+module _ (g : given.Over) (c : After-put_pages g) (st : IsTrue (g.D.DiskState.steady c.args.disk.now)) (kept : SideFile) (base : List (List ℕ)) (shape : side_shape (Some kept) ≡ Some c.args.side) (cut : Holds g.D.DiskState kept base c.args.disk.now c.cut.new.self) where
   put_down : Holds g.D.DiskState kept base c.args.disk.now c.put_pages.new.disk
   put_down =
       let parts = shape_parts kept c.args.side shape in
@@ -25,7 +25,7 @@ module _ (g : given.Over) (c : After-put_pages g) (st : IsTrue (g.D.DiskState.st
       holds_then g.D.DiskState kept base c.args.disk.now c.cut.new.self c.put_pages.new.disk cut put.sealed put.time
 
 -- what is seen when all are put back is the old file
-module _ (g : given.Over) (c : In_ok-put_pages g) (st : IsTrue (g.D.DiskState.steady c.args.disk.now)) (kept : Kept) (base : List (List ℕ)) (shape : side_shape (Some kept) ≡ Some c.args.side) (sealed : IsSealed g.D.DiskState kept base c.args.disk.now) (cut : Holds g.D.DiskState kept base c.args.disk.now c.cut.new.self) where
+module _ (g : given.Over) (c : In_ok-put_pages g) (st : IsTrue (g.D.DiskState.steady c.args.disk.now)) (kept : SideFile) (base : List (List ℕ)) (shape : side_shape (Some kept) ≡ Some c.args.side) (sealed : IsSealed g.D.DiskState kept base c.args.disk.now) (cut : Holds g.D.DiskState kept base c.args.disk.now c.cut.new.self) where
   whole : (g.D.DiskState.seen c.put_pages.new.disk).main ≡ restored kept base
   whole =
       let d = g.D.DiskState in

@@ -1,5 +1,5 @@
 use Rattle.std.proofs.Common.{◌≡◌, ℕ, List, length, IsTrue}
-use Rattle.page_journal.specs.Files.{Kept}
+use Rattle.page_journal.specs.Files.{SideFile}
 use Rattle.page_journal.specs.Crash.{IsSealed, LeavesLogs}
 use Rattle.page_journal.proofs.PuttingLemmas.{Puts}
 use Rattle.page_journal.proofs.recovering.put_pages.Given as goal
@@ -12,5 +12,5 @@ invariant-loop-i g l = record {
   logs : LeavesLogs g.D.DiskState l.fn.disk l.disk;
   tail : (g.D.DiskState.seen l.disk).main.tail ≡ (g.D.DiskState.seen l.fn.disk).main.tail;
   failures : g.D.DiskState.failures l.disk ≡ g.D.DiskState.failures l.fn.disk;
-  put : IsTrue (g.D.DiskState.steady l.fn.disk) → (kept : Kept) (base : List (List ℕ)) → kept.long ≡ l.long → length kept.pages ≡ l.count → IsSealed g.D.DiskState kept base l.fn.disk → Puts g.D.DiskState kept base l.i l.fn.disk l.disk;
+  put : IsTrue (g.D.DiskState.steady l.fn.disk) → (kept : SideFile) (base : List (List ℕ)) → kept.long ≡ l.long → length kept.pages ≡ l.count → IsSealed g.D.DiskState kept base l.fn.disk → Puts g.D.DiskState kept base l.i l.fn.disk l.disk;
 }

@@ -1,7 +1,7 @@
 use Rattle.std.proofs.Common.{rules, ◌≡◌, ◌∙◌, ap, sym, subst, ℕ, List, Option, Some, IsTrue}
-use Rattle.page_journal.specs.Files.{PageFile, Kept, Files, IsOf, restored, recovered, recovered_by}
+use Rattle.page_journal.specs.Files.{PageFile, SideFile, Files, IsOf, restored, recovered, recovered_by}
 use Rattle.page_journal.specs.Steps.{side_shape}
-use Rattle.page_journal.specs.Crash.{LeavesOnly, StandsAs, StandsFor, IsSettled, IsAtRest, IsSealed}
+use Rattle.page_journal.specs.Crash.{LeavesOnly, StandsAs, FilesStandFor, IsSettled, IsAtRest, IsSealed}
 use Rattle.page_journal.proofs.MomentLemmas.{then_runs, weaker}
 use Rattle.page_journal.proofs.SealedLemmas.{sealed_at_rest, stands_as}
 use Rattle.page_journal.proofs.RunLemmas.{Holds, holds_begin, holds_stays}
@@ -13,7 +13,7 @@ use Rattle.page_journal.proofs.recovering.recover.Goals.{After-belongs, After-pu
 
 module _ (g : given.Over) (c : After-belongs g) (st : IsTrue (g.D.DiskState.steady c.args.disk.now)) where
   -- where the file was sealed, it stays so
-  module _ (kept : Kept) (base : List (List ℕ)) (sealed : IsSealed g.D.DiskState kept base c.args.disk.now) where
+  module _ (kept : SideFile) (base : List (List ℕ)) (sealed : IsSealed g.D.DiskState kept base c.args.disk.now) where
     asked : Holds g.D.DiskState kept base c.args.disk.now c.belongs.new.disk
     asked =
         let d = g.D.DiskState in
@@ -22,18 +22,18 @@ module _ (g : given.Over) (c : After-belongs g) (st : IsTrue (g.D.DiskState.stea
 
 module _ (g : given.Over) (c : After-put_back g) (st : IsTrue (g.D.DiskState.steady c.args.disk.now)) where
   -- and the old file is put back
-  module _ (kept : Kept) (base : List (List ℕ)) (sealed : IsSealed g.D.DiskState kept base c.args.disk.now) (run : Holds g.D.DiskState kept base c.args.disk.now c.belongs.new.disk) where
-    put_time : LeavesOnly g.D.DiskState (StandsFor (restored kept base)) c.args.disk.now c.put_back.new.disk
+  module _ (kept : SideFile) (base : List (List ℕ)) (sealed : IsSealed g.D.DiskState kept base c.args.disk.now) (run : Holds g.D.DiskState kept base c.args.disk.now c.belongs.new.disk) where
+    put_time : LeavesOnly g.D.DiskState (FilesStandFor (restored kept base)) c.args.disk.now c.put_back.new.disk
     put_time =
         let shape : side_shape (Some kept) ≡ Some c.in-Some.side = ap side_shape (sym sealed.side) ∙ sym (c.in_ok-side.ensures.shape st) ∙ c.in-Some.is in
-        then_runs g.D.DiskState (StandsFor (restored kept base)) c.args.disk.now c.belongs.new.disk c.put_back.new.disk run.time (c.put_back.ensures.any_moment (c.belongs.ensures.stays.steady ∙ c.side.ensures.does.0.steady ∙ st) kept base shape run.sealed)
+        then_runs g.D.DiskState (FilesStandFor (restored kept base)) c.args.disk.now c.belongs.new.disk c.put_back.new.disk run.time (c.put_back.ensures.any_moment (c.belongs.ensures.stays.steady ∙ c.side.ensures.does.0.steady ∙ st) kept base shape run.sealed)
 
 -- after a restart, the file is sealed by the side file that was found
 module _ (g : given.Over) (c : After-put_back g) (st : IsTrue (g.D.DiskState.steady c.args.disk.now)) (rest : IsAtRest g.D.DiskState c.args.disk.now) where
   abbrev base : List (List ℕ)
   base = (g.D.DiskState.seen c.args.disk.now).main.pages
 
-  abbrev found : (kept : Kept) × ((g.D.DiskState.seen c.args.disk.now).side ≡ Some kept) × (side_shape (Some kept) ≡ Some c.in-Some.side)
+  abbrev found : (kept : SideFile) × ((g.D.DiskState.seen c.args.disk.now).side ≡ Some kept) × (side_shape (Some kept) ≡ Some c.in-Some.side)
   found =
       let there = sym (c.in_ok-side.ensures.shape st) ∙ c.in-Some.is in
       let case = side_cases (g.D.DiskState.seen c.args.disk.now).side c.in-Some.side (sym there) in
@@ -49,13 +49,13 @@ module _ (g : given.Over) (c : After-put_back g) (st : IsTrue (g.D.DiskState.ste
   sealed = sealed_at_rest g.D.DiskState found.0 c.args.disk.now rest found.1 own
 
   stands : restored found.0 base ≡ recovered (g.D.DiskState.seen c.args.disk.now)
-  stands = sym (ap (λ (side : Option Kept). recovered_by side (g.D.DiskState.seen c.args.disk.now).main) found.1)
+  stands = sym (ap (λ (side : Option SideFile). recovered_by side (g.D.DiskState.seen c.args.disk.now).main) found.1)
 
   rest_time : Holds g.D.DiskState found.0 base c.args.disk.now c.belongs.new.disk → LeavesOnly g.D.DiskState (StandsAs (g.D.DiskState.seen c.args.disk.now)) c.args.disk.now c.put_back.new.disk
   rest_time run =
       let d = g.D.DiskState in
       let old = c.args.disk.now in
-      weaker d (StandsFor (restored found.0 base)) (StandsAs (d.seen old)) old c.put_back.new.disk (λ f is. stands_as (d.seen old) f (restored found.0 base) stands is) (put_time g c st found.0 base sealed run)
+      weaker d (FilesStandFor (restored found.0 base)) (StandsAs (d.seen old)) old c.put_back.new.disk (λ f is. stands_as (d.seen old) f (restored found.0 base) stands is) (put_time g c st found.0 base sealed run)
 
 pub returns-in_err-side-clause-taken_back_at_any_moment :
     goal.returns-in_err-side-clause-taken_back_at_any_moment

@@ -1,5 +1,5 @@
 use Rattle.std.proofs.Common.{◌≡◌, ◌∙◌, Bool, ap, sym, subst}
-use Rattle.page_journal.specs.Files.{PageFile, Kept, Files}
+use Rattle.page_journal.specs.Files.{PageFile, SideFile, Files}
 use Rattle.page_journal.specs.Crash.{Gathered, KeepsMarked}
 use Rattle.page_journal.proofs.RestoreLemmas.{restored_itself}
 use Rattle.page_journal.proofs.PuttingLemmas.{own_of}
@@ -24,7 +24,7 @@ module _ (g : given.Over) (c : After-name g) where
       let got = c.in_ok-gather.ensures.kept steady in
       let fresh = c.in_ok-start.ensures.fresh before in
       let gathered : Gathered main.pages (d.seen c.gather.new.disk).fresh = subst (λ (m : PageFile). Gathered m.pages (d.seen c.gather.new.disk).fresh) begun.settled.seen got.0 in
-      let own = own_of main.pages c.args.marks.now (d.seen c.gather.new.disk).fresh c.in_ok-rest.rest c.requires.long gathered got.1 got.2 (got.3 ∙ ap (λ (f : Kept). f.rest) fresh) (c.in_ok-rest.ensures.sum st) in
+      let own = own_of main.pages c.args.marks.now (d.seen c.gather.new.disk).fresh c.in_ok-rest.rest c.requires.long gathered got.1 got.2 (got.3 ∙ ap (λ (f : SideFile). f.rest) fresh) (c.in_ok-rest.ensures.sum st) in
       ready d main old c.gather.new.disk c.sync_fresh.new.self (d.seen c.start.new.self).main all begun.settled.seen got.0 own c.sync_fresh.ensures.1 c.in_ok-sync_fresh.ensures.0
 
 pub returns-in_err-name-clause-any_moment : goal.returns-in_err-name-clause-any_moment
@@ -52,7 +52,7 @@ returns-clause-sealed g c = λ st.
       now_sealed d main c.args.disk.now c.sync_fresh.new.self c.name.new.self c.sync_names.new.self all c.name.ensures.does.0 (c.in_ok-name.ensures.named after) c.sync_names.ensures.1 (λ f left. ap (λ (b : Bool × Bool). b.0) (c.in_ok-sync_names.ensures.0 f left)),
       restored_itself main kept c.requires.no_tail all.gathered.long all.gathered.pages_there,
       all.gathered.long,
-      subst (λ (k : Kept). KeepsMarked c.args.marks.now k) (sym same) (c.in_ok-gather.ensures.kept before).1,
+      subst (λ (k : SideFile). KeepsMarked c.args.marks.now k) (sym same) (c.in_ok-gather.ensures.kept before).1,
     )
 
 pub returns-in_err-rest-clause-logs : goal.returns-in_err-rest-clause-logs

@@ -1,12 +1,12 @@
 use Rattle.std.proofs.Common.{ℕ, List, Result, Ok, Err, OnOk, refl, subst}
 use Rattle.btree_node.specs.Lists.{Element}
 use Rattle.rec_types.specs.Contents.{Contents}
-use Rattle.page_rescue.specs.Rescue.{Grows, IsAmong, IsInPage}
+use Rattle.page_rescue.specs.Rescue.{GrowsBy, IsAmong, IsInPage}
 use Rattle.page_rescue.proofs.GrowthLemmas.{grows_from}
 use Rattle.page_rescue.proofs.rescue.take_page.Goals as goal
 
 -- what comes from a node of the page comes from the page
-from_page : {A E : Type 0} {From More : List ℕ → List ℕ → Type 0} (answer : Result A E) (a b : Contents) → ((k v : List ℕ) → From k v → More k v) → OnOk answer (Grows From a b) → OnOk answer (Grows More a b)
+from_page : {A E : Type 0} {From More : List ℕ → List ℕ → Type 0} (answer : Result A E) (a b : Contents) → ((k v : List ℕ) → From k v → More k v) → OnOk answer (GrowsBy From a b) → OnOk answer (GrowsBy More a b)
 from_page (Ok done) a b more grew = grows_from a b more grew
 from_page (Err fault) a b more grew = grew
 

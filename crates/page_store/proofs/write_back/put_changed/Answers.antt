@@ -7,7 +7,7 @@ use Rattle.page_store.specs.PageMap.{PageMap}
 use Rattle.page_store.specs.WritingBack.{to_write, SameBut}
 use Rattle.page_store.proofs.CallCountLemmas.{counted_once, one_more_yes, one_more_no, how_many_below, all_calls, on_err}
 use Rattle.page_store.specs.Guards.{Guard, AllowsAll, may_write}
-use Rattle.page_store.specs.Journal.{noted, writes_below}
+use Rattle.page_store.specs.Journal.{noted_steps, writes_below}
 use Rattle.page_store.proofs.GuardLemmas.{allowed_at}
 use Rattle.page_store.proofs.JournalLemmas.{write_noted, skip_noted, failed_writes, noted_none}
 use Rattle.page_store.proofs.WriteBackLemmas.{others_put, pages_put, pages_skipped}
@@ -120,7 +120,7 @@ returns-clause-carries g c = record {
       let low = c.loop-n.auto.n-end c.requires.some in
       let high = c.loop-n-test.false in
       let done : c.loop-n.n ≡ c.args.count = omega arith in
-      c.loop-n.invariant.journal ∙ ap (λ n. noted (g.S.StoreState.journal c.args.store.now) (writes_below pages n)) done;
+      c.loop-n.invariant.journal ∙ ap (λ n. noted_steps (g.S.StoreState.journal c.args.store.now) (writes_below pages n)) done;
   journal_err = search rules;
   guard = c.loop-n.invariant.guard;
 }

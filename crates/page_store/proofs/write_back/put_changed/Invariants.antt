@@ -2,7 +2,7 @@ use Rattle.std.proofs.Common.{◌≡◌, ℕ, ◌<◌, IsSome, is_some, IsTrue, 
 use Rattle.page_store.specs.Calls.{counted_times, how_many}
 use Rattle.page_store.specs.Overlaid.{slots_of}
 use Rattle.page_store.specs.WritingBack.{to_write, SameBut}
-use Rattle.page_store.specs.Journal.{noted, writes_below}
+use Rattle.page_store.specs.Journal.{noted_steps, writes_below}
 use Rattle.page_store.proofs.GuardLemmas.{Passes}
 use Rattle.page_store.proofs.write_back.put_changed.Given as goal
 
@@ -17,6 +17,6 @@ invariant-loop-n g l = record {
   shapes : g.S.StoreState.shapes l.store ≡ g.S.StoreState.shapes l.fn.store;
   writes : g.S.StoreState.writes l.store ≡ counted_times (g.S.StoreState.writes l.fn.store) (how_many (λ n. is_some (to_write (slots_of l.changed) l.free.keys l.count n)) l.n);
   failures : g.S.StoreState.failures l.store ≡ g.S.StoreState.failures l.fn.store;
-  journal : g.S.StoreState.journal l.store ≡ noted (g.S.StoreState.journal l.fn.store) (writes_below (to_write (slots_of l.changed) l.free.keys l.count) l.n);
+  journal : g.S.StoreState.journal l.store ≡ noted_steps (g.S.StoreState.journal l.fn.store) (writes_below (to_write (slots_of l.changed) l.free.keys l.count) l.n);
   guard : Passes (writes_below (to_write (slots_of l.changed) l.free.keys l.count) l.count) (g.S.StoreState.guard l.fn.store) (g.S.StoreState.guard l.store);
 }

@@ -2,7 +2,7 @@ use Rattle.std.proofs.Common.{◌≡◌, ◌∙◌, ℕ, List, [], ◌∷◌, �
 use Rattle.std.proofs.lemmas.List.{append-nil}
 use Rattle.commit_paper.specs.Text.{unit_text}
 use Rattle.page_store.specs.Opening.{Opening}
-use Rattle.page_journal.specs.Crash.{StandsFor}
+use Rattle.page_journal.specs.Crash.{FilesStandFor}
 use Rattle.page_journal.specs.Files.{PageFile, recovered}
 use Rattle.page_journal.specs.Logging.{SaysNoneOr}
 use Rattle.page_journal.specs.KeptStores.{KeptStored}
@@ -48,5 +48,5 @@ returns-clause-stopped g c steady left since =
     let here = (goal.at.returns-clause-stopped g c).After-deref in
     let stays = c.head_of.ensures.stays in
     let file = ap opening_file stays.opening in
-    subst (λ (x : PageFile × List ℕ). StandsFor x.0 left × SaysNoneOr ((x.1 ∷ []) ∷ []) left) (λ i. (file i, head g here steady i))
+    subst (λ (x : PageFile × List ℕ). FilesStandFor x.0 left × SaysNoneOr ((x.1 ∷ []) ∷ []) left) (λ i. (file i, head g here steady i))
     (c.in-Err-begin_commits.ensures.stopped (stays.steady ∙ steady) (c.in-Ok.head.items ∷ []) c.in-Ok.ensures.unit (spelt g here) left since)

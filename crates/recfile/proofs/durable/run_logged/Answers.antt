@@ -1,4 +1,6 @@
 use Rattle.std.proofs.Common.{◌≡◌, ◌≤◌, inl, arith, ℕ, false, true, List, [], ◌∷◌, is_some, Result, Ok, Err, OnOk, IsTrue, refl, sym, ap, subst, ◌∙◌}
+use Rattle.std.specs.FinMap as maps
+use Rattle.std.specs.Result.{is_err}
 use Rattle.btree_delete.specs.TableView.{TableView, table_contents}
 use Rattle.btree_delete.specs.Origins.{Origin}
 use Rattle.page_journal.specs.Files.{Files, PageFile}
@@ -18,35 +20,37 @@ use Rattle.recfile.specs.Statuses.{exit_status_of}
 use Rattle.recfile.specs.WholeSession.{IsSession, IsUncounted}
 use Rattle.recfile.specs.declared.endings.EndFault.{EndFault}
 use Rattle.recfile.proofs.DurableLemmas.{DoubtIs, each_finds, ended_finds_all, opening_finds}
-use Rattle.recfile.proofs.DurableRunLemmas.{doubt_is, logged_commits, logged_doubt, made, new_commits, new_doubt, opening_kept, order_kept, records_made, within}
+use Rattle.recfile.proofs.DurableRunLemmas.{limit_kept, doubt_is, logged_commits, logged_doubt, made, new_commits, new_doubt, opening_kept, order_kept, records_made, within}
 use Rattle.recfile.proofs.OpenedLemmas.{begun_logged, fresh_logged, never_4, treed}
 use Rattle.recfile.proofs.durable.run_logged.Given as given
 use Rattle.recfile.proofs.durable.run_logged.Goals as goal
 use Rattle.recfile.proofs.durable.run_logged.Goals.{After-abandon-table}
 
 pub returns-in-Ok-clause-ran : goal.returns-in-Ok-clause-ran
-returns-in-Ok-clause-ran g c = (
-  seen_as true treed c.new-file.result,
-  begun_logged c.new-file.result c.args.table c.args.limits c.new-file.ensures,
-  record {
+returns-in-Ok-clause-ran g c = record {
+  old = seen_as true treed c.new-file.result;
+  file = begun_logged c.new-file.result c.args.table c.args.limits c.new-file.ensures;
+  logged = refl;
+  run = record {
     answer = c.run_session-end.result.script;
     ended = Ok c.in-Ok.field-0;
     mid = c.run_session-end.ensures.session.0;
     new = seen_as true treed c.run_session-end.new.file;
     session = subst (λ e. IsSession c.args.manner (g.R.CountedRead.left c.args.reader.now) (g.R.CountedRead.left c.run_session-end.new.reader) (g.W.CountedWrite.held c.args.out.now) (g.W.CountedWrite.held c.run_session-end.new.out) (seen_as true treed c.new-file.result) c.run_session-end.ensures.session.0 c.run_session-end.result.script e (seen_as true treed c.run_session-end.new.file)) c.in-Ok.is c.run_session-end.ensures.session.1;
-    status_is = ap (λ e. e.status) c.close_logged.ensures.end ∙ ap (exit_status_of false (is_some c.close_logged.result.unclosed)) c.is_err-script_fault.ensures.value;
+    status_is = ap (λ e. e.status) c.close_logged.ensures.end;
     fault = c.close_logged.ensures.fault;
     untried = tt;
     failed = c.run_session-end.ensures.failed;
-  },
-  refl,
-)
+  };
+  flush = ap (λ e. e.flushed) c.close_logged.ensures.end;
+}
 
 pub returns-in-Err-clause-ran : goal.returns-in-Err-clause-ran
-returns-in-Err-clause-ran g c = (
-  seen_as true treed c.new-file.result,
-  begun_logged c.new-file.result c.args.table c.args.limits c.new-file.ensures,
-  record {
+returns-in-Err-clause-ran g c = record {
+  old = seen_as true treed c.new-file.result;
+  file = begun_logged c.new-file.result c.args.table c.args.limits c.new-file.ensures;
+  logged = refl;
+  run = record {
     answer = c.run_session-end.result.script;
     ended = Err c.in-Err.field-0;
     mid = c.run_session-end.ensures.session.0;
@@ -56,18 +60,22 @@ returns-in-Err-clause-ran g c = (
     fault = tt;
     untried = refl;
     failed = c.run_session-end.ensures.failed;
-  },
-  refl,
-)
+  };
+  flush = refl;
+}
 
 pub returns-in-Ok-clause-stopped : goal.returns-in-Ok-clause-stopped
 returns-in-Ok-clause-stopped g c steady four =
-    absurd (never_4 (is_some c.close_logged.result.unclosed) c.is_err-script_fault.result (sym (ap (λ e. e.status) c.close_logged.ensures.end) ∙ four))
+    absurd (never_4 (is_some c.close_logged.result.unclosed) (is_err c.run_session-end.result.script) (sym (ap (λ e. e.status) c.close_logged.ensures.end) ∙ four))
 
 pub returns-in-Err-clause-stopped : goal.returns-in-Err-clause-stopped
 returns-in-Err-clause-stopped g c steady four =
     let kept = subst (λ (x : TableView × TableView). IsKeptBeside x.0 x.1) (λ i. (ap (λ (f : OpenFile TableView). f.table) c.new-file.ensures i, sym c.abandon-table.ensures i)) c.run_session-end.ensures.moves in
     subst (λ (f : PageFile). LeavesOld g.D.DiskState f c.give_back.result) (opening_kept c.args.table c.abandon-table.result kept).0 (c.give_back.ensures.old (ap (λ (o : Origin). o.steady) kept ∙ steady))
+
+-- a table has no more records than it may have
+fits : (seen count many most limit : ℕ) → many ≡ seen → count ≡ many → count ≤ most → most ≡ limit → seen ≤ limit
+fits seen count many most limit same counts few is = omega (arith, same, counts, few, is)
 
 -- the session that was run over the file beside which a log was begun, with that end
 module _ (g : given.Over) (c : After-abandon-table g) (steady : IsTrue c.args.table.pages.steady) (uncounted : IsUncounted c.args.table) (begun : IsBegunBeside c.args.table.pages.opening) (ended : Result ℕ EndFault) (is : c.run_session-end.result.ended ≡ ended) where
@@ -133,13 +141,15 @@ returns-in-Ok-clause-session g c steady uncounted begun within_limit =
         mid = c.run_session-end.ensures.session.0;
         new = seen_as true treed c.run_session-end.new.file;
         session = session g here steady uncounted begun ended c.in-Ok.is;
-        status_is = ap (λ e. e.status) c.close_logged.ensures.end ∙ ap (exit_status_of false (is_some c.close_logged.result.unclosed)) c.is_err-script_fault.ensures.value;
+        status_is = ap (λ e. e.status) c.close_logged.ensures.end;
         fault = c.close_logged.ensures.fault;
         untried = tt;
         failed = c.run_session-end.ensures.failed;
       };
+      flush = ap (λ e. e.flushed) c.close_logged.ensures.end;
       made = k;
       records = records g here steady uncounted begun ended c.in-Ok.is;
+      within = fits (maps.len (table_contents c.run_session-end.new.file.table)) c.count-count.result (maps.len (table_contents c.abandon-table.result)) c.abandon-table.result.limit c.args.limits.records (ap (λ (t : TableView). maps.len (table_contents t)) c.abandon-table.ensures) (c.count-count.ensures.value tabled) (c.count-count.ensures.most tabled) (limit_kept c.args.table c.abandon-table.result (moves g here steady uncounted begun ended c.in-Ok.is) ∙ c.requires.limit);
       any_moment = λ f since. ended_finds_all c.args.table.tree.order contents file holds opening f k.units k.kept (in_doubt k.doubted) (table_contents c.abandon-table.result) records_are (same_file g here steady uncounted begun ended c.in-Ok.is) (still_logged g here steady uncounted begun ended c.in-Ok.is) (commits g here steady uncounted begun ended c.in-Ok.is) (doubt g here steady uncounted begun ended c.in-Ok.is) k.says (left f since);
       lasts = λ f now. each_finds c.args.table.tree.order contents file holds opening f k.units k.kept (in_doubt k.doubted) (table_contents c.abandon-table.result) records_are (same_file g here steady uncounted begun ended c.in-Ok.is) (still_logged g here steady uncounted begun ended c.in-Ok.is) (commits g here steady uncounted begun ended c.in-Ok.is) (doubt g here steady uncounted begun ended c.in-Ok.is) k.says (left f (g.met.D.Disk.counts_now c.close_logged.result.disk 0 f (omega arith) now)) (subst (λ (n : ℕ). LosesNone opening n (table_contents c.abandon-table.result) f) order_is (c.close_logged.ensures.lasts tabled f now));
       closed = λ none. subst (λ (x : ℕ × Contents). IsSettledWith d x.0 x.1 c.close_logged.result.disk) (λ i. (order_is i, records_are i)) (c.close_logged.ensures.closed tabled none);
@@ -168,8 +178,10 @@ returns-in-Err-clause-session g c steady uncounted begun within_limit =
         untried = refl;
         failed = c.run_session-end.ensures.failed;
       };
+      flush = refl;
       made = k;
       records = tt;
+      within = tt;
       any_moment = λ f since. opening_finds c.args.table.tree.order contents file holds opening f k.units k.kept (in_doubt k.doubted) (same_file g here steady uncounted begun ended c.in-Err.is) (still_logged g here steady uncounted begun ended c.in-Err.is) (commits g here steady uncounted begun ended c.in-Err.is) (doubt g here steady uncounted begun ended c.in-Err.is) k.says (c.give_back.ensures.commits tabled f since);
       lasts = λ f now. each_finds c.args.table.tree.order contents file holds opening f k.units k.kept (in_doubt k.doubted) (overlay contents (writes_in_turn k.kept)) refl (same_file g here steady uncounted begun ended c.in-Err.is) (still_logged g here steady uncounted begun ended c.in-Err.is) (commits g here steady uncounted begun ended c.in-Err.is) (doubt g here steady uncounted begun ended c.in-Err.is) k.says (inl (inl (c.give_back.ensures.commits tabled f (g.met.D.Disk.counts_now c.give_back.result 0 f (omega arith) now)))) (inl (c.give_back.ensures.lasts tabled f now));
       closed = tt;

@@ -1,11 +1,11 @@
 use Rattle.std.proofs.Common.{ℕ, ⊎_elim, inl, inr, Result, OnOk, refl, sym, ap, subst, ◌∙◌}
 use Rattle.rec_types.specs.Table.{counted}
 use Rattle.page_store.specs.Opening.{Opening}
-use Rattle.page_journal.specs.Crash.{StandsFor}
+use Rattle.page_journal.specs.Crash.{FilesStandFor}
 use Rattle.page_journal.specs.Files.{recovered}
 use Rattle.page_journal.specs.KeptStores.{guard_of}
-use Rattle.page_journal.specs.Recovery.{is_device as is_recovery}
-use Rattle.recfile.specs.FileFaults.{is_device}
+use Rattle.page_journal.specs.Recovery.{is_recovery_device as is_recovery}
+use Rattle.recfile.specs.FileFaults.{is_file_device}
 use Rattle.recfile.specs.Filling.{loaded}
 use Rattle.recfile.specs.Kept.{HasRecords, IsKeptWith, opening_file}
 use Rattle.recfile.specs.declared.file_fault.FileFault.{FileFault}
@@ -22,7 +22,7 @@ returns-in-Err-clause-device g c = λ unsealed tail.
     let again = is_recovery c.take_back-disk.result.1 in
     record {
       again = again;
-      failures = c.take_back-disk.ensures.leaves.failures ∙ ap (λ n. counted n again) (same ∙ ap (λ n. counted n (is_device fault)) c.abandon-store.ensures.failures);
+      failures = c.take_back-disk.ensures.leaves.failures ∙ ap (λ n. counted n again) (same ∙ ap (λ n. counted n (is_file_device fault)) c.abandon-store.ensures.failures);
       once = λ never. absurd (cc never);
     }
 
@@ -32,7 +32,7 @@ returns-clause-any_moment g c = λ steady left since.
     let still = c.in_default.ensures.steady ∙ begun in
     let opening = c.in_default.ensures.opening ∙ c.abandon-store.ensures.opening in
     let main = (g.D.DiskState.seen c.seal_and_fill.new.store.disk).main in
-    ⊎_elim (λ old. inl (subst (λ (o : Opening). StandsFor (opening_file o) left) opening old))
+    ⊎_elim (λ old. inl (subst (λ (o : Opening). FilesStandFor (opening_file o) left) opening old))
     (λ new. inr (new.0, subst (λ (k : ℕ). HasRecords k (loaded c.args.records.now) (recovered left)) c.order-order.ensures.value (has_loaded c.order-order.result c.args.records.now main (recovered left) c.requires.records.0 (c.in_default.ensures.filled begun) new.1)))
     (c.finish-disk.ensures.any_moment still left since)
 

@@ -18,7 +18,7 @@ returns g c =
       first,
       there,
       subst (λ (n : ℕ). MatchOption c.run_durable.result.unopened (EndsDurably ghosts c.args.manner (g.R.CountedRead.left c.args.reader.now) (g.R.CountedRead.left c.run_durable.new.reader) (g.W.CountedWrite.held c.args.out.now) (g.W.CountedWrite.held c.run_durable.new.out) c.args.calls.now c.run_durable.new.calls
-          c.args.order maps.empty c.args.limits n ((head_line (recovered first) ∷ []) ∷ []) c.run_durable.result.unclosed c.run_durable.result.status c.run_durable.result.disk) (IsOutsideDisk first))
+          c.args.order maps.empty c.args.limits n ((head_line (recovered first) ∷ []) ∷ []) c.run_durable.result.unclosed c.run_durable.result.status c.run_durable.result.flushed c.run_durable.result.disk) (IsOutsideDisk first))
           (ap (λ (d : MemDisk). d.failures) c.in_ok-disk.ensures.new)
           (c.run_durable.ensures.session refl c.args.order maps.empty (second_version, there.0, there.1, there.2, omega (arith, counts))),
     )

@@ -1,11 +1,11 @@
 use Rattle.std.proofs.Common.{◌≡◌, ◌≤◌, false, Result, Ok, Err, OnOk, ⊎_elim, inl, inr, IsTrue, refl, sym, ap, subst, ◌∙◌}
 use Rattle.page_store.specs.Opening.{Opening}
-use Rattle.page_journal.specs.Crash.{StandsFor}
+use Rattle.page_journal.specs.Crash.{FilesStandFor}
 use Rattle.btree_delete.specs.TableView.{TableView, table_contents}
 use Rattle.rec_types.specs.Table.{counted}
 use Rattle.page_store.specs.Guards.{Unsealed}
 use Rattle.page_store.specs.declared.page_edit.WriteFault.{WriteFault}
-use Rattle.recfile.specs.FileFaults.{is_device, is_device_answer}
+use Rattle.recfile.specs.FileFaults.{is_file_device, is_device_answer}
 use Rattle.recfile.specs.Kept.{IsKeptWith, opening_file, refused_calls}
 use Rattle.recfile.specs.declared.file_fault.FileFault.{FileFault}
 use Rattle.recfile.proofs.ClosingCountLemmas.{by_change, device_of_closing, device_of_sealing, device_of_store, is_stopped, moments_told, not_stopped, ok_told, seal_goes_on, seal_refuses, seal_seals, sealed_state, unrefused}
@@ -21,7 +21,7 @@ pub returns-in-Ok-clause-any_moment : goal.returns-in-Ok-clause-any_moment
 returns-in-Ok-clause-any_moment g c steady left since =
     let sealed : IsTrue c.seal.new.self.pages.steady = ap (λ (t : TableView). t.pages.steady) c.seal.ensures.same ∙ steady in
     let opening = c.in-Ok.ensures.store.opening ∙ ap (λ (t : TableView). t.pages.opening) c.seal.ensures.same in
-    ⊎_elim (λ old. inl (subst (λ (o : Opening). StandsFor (opening_file o) left) opening old))
+    ⊎_elim (λ old. inl (subst (λ (o : Opening). FilesStandFor (opening_file o) left) opening old))
     (λ new. inr (new.0, has_records c.seal.new.self c.args.table (g.D.DiskState.seen c.in-Ok.store.disk).main _ (ap (λ (t : TableView). t.tree.order) c.seal.ensures.same) (ap table_contents c.seal.ensures.same) new.1 (c.in-Ok.ensures.closed sealed)))
     (c.finish-disk.ensures.any_moment (c.in-Ok.ensures.store.steady ∙ sealed) left since)
 
@@ -79,7 +79,7 @@ returns-in-Err-clause-device g c unsealed tail =
     record {
       again = given_back.0;
       failures = given_back.1 ∙ ap (λ n. counted n given_back.0)
-          (c.in-Err.ensures.device ∙ ap (counted old.failures) (device_of_sealing fault) ∙ ap (λ (f : FileFault). counted old.failures (is_device f)) (sym c.from.ensures));
+          (c.in-Err.ensures.device ∙ ap (counted old.failures) (device_of_sealing fault) ∙ ap (λ (f : FileFault). counted old.failures (is_file_device f)) (sym c.from.ensures));
       once = λ never. absurd (cc never);
     }
 
@@ -94,7 +94,7 @@ returns-in-Err-close-clause-device g c unsealed tail =
     record {
       again = given_back.0;
       failures = given_back.1 ∙ ap (λ n. counted n given_back.0)
-          (c.in-Err-close.ensures.fault.device ∙ (λ i. counted (c.in_default.ensures.device i) (device_of_closing stop.fault i)) ∙ ap (λ (f : FileFault). counted old.failures (is_device f)) (sym c.from-in-Err-close.ensures));
+          (c.in-Err-close.ensures.fault.device ∙ (λ i. counted (c.in_default.ensures.device i) (device_of_closing stop.fault i)) ∙ ap (λ (f : FileFault). counted old.failures (is_file_device f)) (sym c.from-in-Err-close.ensures));
       once = λ never. absurd (cc never);
     }
 

@@ -1,7 +1,7 @@
 use Rattle.std.proofs.Common.{◌∙◌, Result, ap, subst}
 use Rattle.page_store.specs.Opening.{Opening}
 use Rattle.rec_types.specs.Table.{counted}
-use Rattle.page_journal.specs.Recovery.{is_device}
+use Rattle.page_journal.specs.Recovery.{is_recovery_device}
 use Rattle.page_journal.specs.declared.recovery_fault.RecoveryFault.{RecoveryFault}
 use Rattle.page_journal.specs.LoggedStores.{commits_in}
 use Rattle.recfile.specs.Beside.{FindsEach, LeavesOpening}
@@ -13,9 +13,9 @@ pub returns-clause-device : goal.returns-clause-device
 returns-clause-device g c = λ none.
     let store = c.abandon.result in
     let same = unrefused store.state store.kept (g.D.DiskState.failures store.disk) store.refusals c.args.table.pages.failures c.args.table.pages.guard c.abandon.ensures.guard none c.abandon.ensures.failures in (
-      is_device c.take_back-disk.result.1,
-      c.take_back-disk.ensures.leaves.failures ∙ ap (λ n. counted n (is_device c.take_back-disk.result.1)) same,
-      λ not_sealed. ap (λ (r : Result (Unit {0}) RecoveryFault). is_device r) (c.take_back-disk.ensures.unsealed (unsealed store.state store.kept store.refusals c.args.table.pages.guard c.abandon.ensures.guard not_sealed)).1,
+      is_recovery_device c.take_back-disk.result.1,
+      c.take_back-disk.ensures.leaves.failures ∙ ap (λ n. counted n (is_recovery_device c.take_back-disk.result.1)) same,
+      λ not_sealed. ap (λ (r : Result (Unit {0}) RecoveryFault). is_recovery_device r) (c.take_back-disk.ensures.unsealed (unsealed store.state store.kept store.refusals c.args.table.pages.guard c.abandon.ensures.guard not_sealed)).1,
     )
 
 pub returns-clause-commits : goal.returns-clause-commits

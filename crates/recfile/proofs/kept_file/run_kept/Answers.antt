@@ -5,7 +5,7 @@ use Rattle.btree_insert.specs.declared.tree.Tree.{Tree}
 use Rattle.btree_delete.specs.TableView.{IsClosed}
 use Rattle.page_journal.specs.Files.{Files, recovered}
 use Rattle.recfile.specs.Dumped.{CanBeOpened, IsOutsideFile}
-use Rattle.recfile.specs.FileFaults.{is_device}
+use Rattle.recfile.specs.FileFaults.{is_file_device}
 use Rattle.recfile.specs.Kept.{ClosesSafely, IsOutsideDisk}
 use Rattle.recfile.specs.WholeSession.{EndsFile, opened_file}
 use Rattle.recfile.specs.declared.file_fault.FileFault.{FileFault}
@@ -24,13 +24,13 @@ returns-in-Ok-clause-closed g c steady none =
 
 pub returns-in-Ok-clause-device : goal.returns-in-Ok-clause-device
 returns-in-Ok-clause-device g c =
-    subst (λ n. IfSome c.run_stored.result.unopened (λ (fault : FileFault). g.D.DiskState.failures c.run_stored.result.disk ≡ counted n (is_device fault))) c.in-Ok.ensures.failures c.run_stored.ensures.device
+    subst (λ n. IfSome c.run_stored.result.unopened (λ (fault : FileFault). g.D.DiskState.failures c.run_stored.result.disk ≡ counted n (is_file_device fault))) c.in-Ok.ensures.failures c.run_stored.ensures.device
 
 pub returns-in-Err-clause-device : goal.returns-in-Err-clause-device
 returns-in-Err-clause-device g c =
     let failed = g.D.DiskState.failures c.args.disk in
-    some_told c.unopened.result.unopened c.from.result (λ f. g.D.DiskState.failures c.unopened.result.disk ≡ counted failed (is_device f)) (ap (λ e. e.unopened) c.unopened.ensures)
-    (ap (λ e. g.D.DiskState.failures e.disk) c.unopened.ensures ∙ c.in-Err.ensures.device ∙ ap (counted failed) (device_of_recovery c.in-Err.fault) ∙ ap (λ (f : FileFault). counted failed (is_device f)) (sym c.from.ensures))
+    some_told c.unopened.result.unopened c.from.result (λ f. g.D.DiskState.failures c.unopened.result.disk ≡ counted failed (is_file_device f)) (ap (λ e. e.unopened) c.unopened.ensures)
+    (ap (λ e. g.D.DiskState.failures e.disk) c.unopened.ensures ∙ c.in-Err.ensures.device ∙ ap (counted failed) (device_of_recovery c.in-Err.fault) ∙ ap (λ (f : FileFault). counted failed (is_file_device f)) (sym c.from.ensures))
 
 pub returns-in-Err-clause-session : goal.returns-in-Err-clause-session
 returns-in-Err-clause-session g c steady tree contents version closed few =

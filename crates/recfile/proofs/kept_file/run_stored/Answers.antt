@@ -4,9 +4,9 @@ use Rattle.page_journal.specs.Files.{PageFile}
 use Rattle.page_journal.specs.LoggedStores.{commits_in}
 use Rattle.page_journal.specs.KeptStores.{failures_with, guard_of, opened_over}
 use Rattle.rec_types.specs.Table.{counted}
-use Rattle.btree_delete.specs.CleanFile.{is_device_fault}
+use Rattle.btree_delete.specs.CleanFile.{is_open_device_fault}
 use Rattle.record_file.specs.Runs.{Seen}
-use Rattle.recfile.specs.FileFaults.{is_device}
+use Rattle.recfile.specs.FileFaults.{is_file_device}
 use Rattle.recfile.proofs.ClosingCountLemmas.{device_of_opening, some_told, unrefused, unsealed}
 use Rattle.recfile.specs.Dumped.{CanBeOpened, IsOutsideFile}
 use Rattle.page_store.specs.Opening.{Opening}
@@ -39,8 +39,8 @@ returns-in-Err-clause-device g c =
     let store = c.in-Err.stop.store in
     let fault = c.in-Err.stop.fault in
     let guard = c.in-Err.ensures.back.stays.guard ∙ (λ i. guard_of (c.requires.unused.0 i) c.args.store.kept (c.requires.unused.1 i)) in
-    let same = unrefused store.state store.kept (g.D.DiskState.failures store.disk) store.refusals (counted failed (is_device_fault fault)) _ guard refl
-    (c.in-Err.ensures.back.failures ∙ ap (λ k. counted (failures_with failed k) (is_device_fault fault)) c.requires.unused.1) in
+    let same = unrefused store.state store.kept (g.D.DiskState.failures store.disk) store.refusals (counted failed (is_open_device_fault fault)) _ guard refl
+    (c.in-Err.ensures.back.failures ∙ ap (λ k. counted (failures_with failed k) (is_open_device_fault fault)) c.requires.unused.1) in
     let left = (c.take_back-disk.ensures.unsealed (unsealed store.state store.kept store.refusals _ guard refl)).0 in
-    some_told c.unopened.result.unopened c.from.result (λ f. g.D.DiskState.failures c.unopened.result.disk ≡ counted failed (is_device f)) (ap (λ e. e.unopened) c.unopened.ensures)
-    (ap (λ e. g.D.DiskState.failures e.disk) c.unopened.ensures ∙ ap g.D.DiskState.failures left ∙ same ∙ ap (counted failed) (device_of_opening fault) ∙ ap (λ (f : FileFault). counted failed (is_device f)) (sym c.from.ensures))
+    some_told c.unopened.result.unopened c.from.result (λ f. g.D.DiskState.failures c.unopened.result.disk ≡ counted failed (is_file_device f)) (ap (λ e. e.unopened) c.unopened.ensures)
+    (ap (λ e. g.D.DiskState.failures e.disk) c.unopened.ensures ∙ ap g.D.DiskState.failures left ∙ same ∙ ap (counted failed) (device_of_opening fault) ∙ ap (λ (f : FileFault). counted failed (is_file_device f)) (sym c.from.ensures))

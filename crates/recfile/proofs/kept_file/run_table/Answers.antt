@@ -5,7 +5,7 @@ use Rattle.page_store.specs.Opening.{Opening}
 use Rattle.record_file.specs.Abstract.{OpenFile}
 use Rattle.record_file.specs.Runs.{Seen, seen}
 use Rattle.rec_types.specs.Table.{counted}
-use Rattle.recfile.specs.FileFaults.{by_device}
+use Rattle.recfile.specs.FileFaults.{file_by_device}
 use Rattle.recfile.specs.Kept.{ClosesSafely, CountsClosing, LeavesOld, opening_file, is_sealed, refused_calls}
 use Rattle.recfile.specs.WholeSession.{IsSession, IsUncounted, opened_file}
 use Rattle.recfile.proofs.SoundRunLemmas.{sound_ran}
@@ -87,7 +87,7 @@ returns-in-Ok-clause-counted g c unsealed tail =
     let here = (goal.at.returns-in-Ok-clause-counted g c).After-abandon-table in
     record {
       run = returns-in-Ok-clause-ran g c;
-      failures = subst (λ n. CountsClosing n (is_some c.close_kept.result.unclosed) (by_device c.close_kept.result.unclosed) (g.D.DiskState.failures c.close_kept.result.disk)) (ap (λ (t : TableView). t.pages.failures) c.abandon-table.ensures)
+      failures = subst (λ n. CountsClosing n (is_some c.close_kept.result.unclosed) (file_by_device c.close_kept.result.unclosed) (g.D.DiskState.failures c.close_kept.result.disk)) (ap (λ (t : TableView). t.pages.failures) c.abandon-table.ensures)
           (c.close_kept.ensures.device (same_guard g here ∙ unsealed) (same_tail g here ∙ tail));
     }
 

@@ -12,10 +12,10 @@ use Rattle.recfile.proofs.page_file.run_in.Goals.{In-Ok}
 
 -- the table was made of the store
 module _ (g : given.Over) (c : In-Ok g) where
-  made : origin_of c.in-Ok.table ≡ opened_in g.S.StoreState c.in-Ok.table.tree.order c.args.store
+  made : origin_of c.in-Ok.table ≡ opened_in g.S.StoreState c.in-Ok.table.tree.order c.in-Ok.table.limit c.args.store
   made =
       let same = c.in-Ok.ensures.over in
-      λ i. record { order = c.in-Ok.table.tree.order; stored = same.stored i; tail = same.tail i; steady = same.steady i; opening = c.in-Ok.ensures.over.opening i; shapes = c.in-Ok.ensures.over.shapes i; writes = same.writes i; journal = c.in-Ok.ensures.over.journal i; guard = c.in-Ok.ensures.over.guard i }
+      λ i. record { order = c.in-Ok.table.tree.order; limit = c.in-Ok.table.limit; stored = same.stored i; tail = same.tail i; steady = same.steady i; opening = c.in-Ok.ensures.over.opening i; shapes = c.in-Ok.ensures.over.shapes i; writes = same.writes i; journal = c.in-Ok.ensures.over.journal i; guard = c.in-Ok.ensures.over.guard i }
 
 at_none : {A : Type 0} (o : Option A) (P : A → Type 0) → o ≡ None → IfSome o P
 at_none o P is = subst (λ x. IfSome x P) (sym is) tt

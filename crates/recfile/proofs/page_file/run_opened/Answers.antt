@@ -9,7 +9,7 @@ use Rattle.recfile.specs.WholeSession.{IsSession, IsUncounted, opened_file}
 use Rattle.recfile.proofs.SoundRunLemmas.{sound_ran}
 use Rattle.recfile.specs.Statuses.{exit_status_of}
 use Rattle.recfile.proofs.OpenedLemmas.{treed, fresh, begun, never_4}
-use Rattle.recfile.specs.FileFaults.{by_device}
+use Rattle.recfile.specs.FileFaults.{file_by_device}
 use Rattle.recfile.proofs.WritingLemmas.{written_over, stays_by}
 use Rattle.recfile.proofs.page_file.run_opened.Given as given
 use Rattle.recfile.proofs.page_file.run_opened.Goals as goal
@@ -34,7 +34,7 @@ module _ (g : given.Over) (c : After-abandon-table g) where
   same_shapes = ap (λ (t : TableView). t.pages.shapes) c.abandon-table.ensures ∙ ap (λ (o : Origin). o.shapes) c.run_session-end.ensures.moves ∙ ap (λ (f : OpenFile TableView). f.table.pages.shapes) c.new-file.ensures
 
   -- the table that is closed is of one origin with the one that was opened
-  made : (store : g.row.S.Denot) → origin_of c.args.table ≡ opened_in g.S.StoreState c.args.table.tree.order store → origin_of c.abandon-table.result ≡ opened_in g.S.StoreState c.args.table.tree.order store
+  made : (store : g.row.S.Denot) → origin_of c.args.table ≡ opened_in g.S.StoreState c.args.table.tree.order c.args.table.limit store → origin_of c.abandon-table.result ≡ opened_in g.S.StoreState c.args.table.tree.order c.args.table.limit store
   made store is = ap origin_of c.abandon-table.ensures ∙ c.run_session-end.ensures.moves ∙ ap (λ (f : OpenFile TableView). origin_of f.table) c.new-file.ensures ∙ is
 
 pub returns-in-Ok-clause-asked : goal.returns-in-Ok-clause-asked
@@ -61,7 +61,7 @@ returns-in-Ok-clause-ran g c store is = record {
     },
     refl,
   );
-  failures = c.close_in.ensures.device ∙ ap (λ (t : TableView). counted t.pages.failures (by_device c.close_in.result.unclosed)) c.abandon-table.ensures;
+  failures = c.close_in.ensures.device ∙ ap (λ (t : TableView). counted t.pages.failures (file_by_device c.close_in.result.unclosed)) c.abandon-table.ensures;
   written = (
     c.abandon-table.result,
     ap table_contents c.abandon-table.ensures,
@@ -88,7 +88,7 @@ returns-in-Err-clause-ran g c store is = record {
     refl,
   );
   failures = c.abandon.ensures.failures ∙ ap (λ (t : TableView). t.pages.failures) c.abandon-table.ensures;
-  written = stays_by g.S.StoreState c.args.table.tree.order store c.abandon.result c.abandon-table.result (made g (goal.at.returns-in-Err-clause-ran g c).After-abandon-table store is) c.abandon.ensures.pages c.abandon.ensures.tail c.abandon.ensures.steady c.abandon.ensures.opening c.abandon.ensures.writes c.abandon.ensures.journal c.abandon.ensures.guard;
+  written = stays_by g.S.StoreState c.args.table.tree.order c.args.table.limit store c.abandon.result c.abandon-table.result (made g (goal.at.returns-in-Err-clause-ran g c).After-abandon-table store is) c.abandon.ensures.pages c.abandon.ensures.tail c.abandon.ensures.steady c.abandon.ensures.opening c.abandon.ensures.writes c.abandon.ensures.journal c.abandon.ensures.guard;
 }
 
 pub returns-in-Ok-clause-stopped : goal.returns-in-Ok-clause-stopped
@@ -97,7 +97,7 @@ returns-in-Ok-clause-stopped g c store is stopped =
 
 pub returns-in-Err-clause-stopped : goal.returns-in-Err-clause-stopped
 returns-in-Err-clause-stopped g c store is stopped =
-    stays_by g.S.StoreState c.args.table.tree.order store c.abandon.result c.abandon-table.result (made g (goal.at.returns-in-Err-clause-stopped g c).After-abandon-table store is) c.abandon.ensures.pages c.abandon.ensures.tail c.abandon.ensures.steady c.abandon.ensures.opening c.abandon.ensures.writes c.abandon.ensures.journal c.abandon.ensures.guard
+    stays_by g.S.StoreState c.args.table.tree.order c.args.table.limit store c.abandon.result c.abandon-table.result (made g (goal.at.returns-in-Err-clause-stopped g c).After-abandon-table store is) c.abandon.ensures.pages c.abandon.ensures.tail c.abandon.ensures.steady c.abandon.ensures.opening c.abandon.ensures.writes c.abandon.ensures.journal c.abandon.ensures.guard
 
 pub returns-in-Ok-clause-session : goal.returns-in-Ok-clause-session
 returns-in-Ok-clause-session g c store is steady uncounted =

@@ -12,18 +12,8 @@ unread (Some fault) remaining contents reader left out held before after status 
 
 pub returns-then-durable : goal.returns-then-durable
 returns-then-durable g c =
-    let end = c.run_durable.result in
-    subst (λ (b : Bool). SessionOf b g.D.DiskState c.args.manner c.args.limits (g.R.CountedRead.left c.args.reader.now) (g.R.CountedRead.left c.run_durable.new.reader) (g.W.CountedWrite.held c.args.out.now) (g.W.CountedWrite.held c.run_durable.new.out) c.args.calls.now c.run_durable.new.calls c.args.disk end.unopened end.unclosed end.disk end.status) (sym c.if-durable.true) (record {
-      unread = unread end.unopened g.R.CountedRead.left g.W.CountedWrite.held c.args.reader.now c.run_durable.new.reader c.args.out.now c.run_durable.new.out c.args.calls.now c.run_durable.new.calls end.status end.unclosed c.run_durable.ensures.unread;
-      ran = c.run_durable.ensures.ran;
-      device = c.run_durable.ensures.device;
-      own = c.run_durable.ensures.own;
-      closed = c.run_durable.ensures.closed;
-      first = c.run_durable.ensures.first;
-      untouched = c.run_durable.ensures.untouched;
-      stopped = c.run_durable.ensures.stopped;
-      session = c.run_durable.ensures.session;
-    })
+    let end = c.run_flushing.result in
+    subst (λ (b : Bool). SessionOf b g.D.DiskState c.args.manner c.args.limits (g.R.CountedRead.left c.args.reader.now) (g.R.CountedRead.left c.run_flushing.new.reader) (g.W.CountedWrite.held c.args.out.now) (g.W.CountedWrite.held c.run_flushing.new.out) c.args.calls.now c.run_flushing.new.calls c.args.disk end.unopened end.unclosed end.disk end.status) (sym c.if-durable.true) c.run_flushing.ensures
 
 pub returns-else-durable : goal.returns-else-durable
 returns-else-durable g c =

@@ -6,7 +6,7 @@ use Rattle.std.specs.Cmp.{unsigned_Decides}
 use Rattle.std.specs.Cmp.Lexicographic.{pointwise_decides}
 use Rattle.std.specs.List.{All}
 use Rattle.rec_types.specs.Contents.{Contents}
-use Rattle.command_text.specs.Script.{entries_of}
+use Rattle.command_text.specs.Script.{commands_of}
 use Rattle.recfile.specs.Beside.{IsUnput}
 use Rattle.recfile.specs.LogOver.{IsHead, IsLogOver, SayOver}
 use Rattle.recfile.specs.Overlaid.{IsLogCommand}
@@ -55,7 +55,7 @@ returns-in_err-overlay_text-clause-fault g c sound units are is =
     let under = g.T.TableState.contents c.args.table.now in
     let p = err_from_is_err_and c.from_residual.result c.from_residual.ensures.1 in
     subst (λ (r : Result (Unit {0}) FileFault). IfErr r (IsUnput (Over c.args.head.now under units))) (sym p.1)
-    (unput_fault (All IsLogCommand (entries_of c.next_line.result.1.now)) (Over c.args.head.now under units) c.in_err-overlay_text.field-0.0 p.0 p.2
+    (unput_fault (All IsLogCommand (commands_of c.next_line.result.1.now)) (Over c.args.head.now under units) c.in_err-overlay_text.field-0.0 p.0 p.2
     (λ over. (found_head c.args.head.now under over.0 units c.args.text.now c.next_line.result.0.now c.next_line.result.1.now are is c.next_line.ensures.cut over.1).1.0)
     (c.in_err-overlay_text.ensures.refused sound))
 
@@ -73,8 +73,8 @@ returns-clause-over g c sound units are is =
 pub returns-clause-fault : goal.returns-clause-fault
 returns-clause-fault g c sound units are is =
     let under = g.T.TableState.contents c.args.table.now in
-    IfErr-weaker c.put_unchanged.result (IsUnput (SayOver under (entries_of c.next_line.result.1.now) under)) (IsUnput (Over c.args.head.now under units))
-    (λ fault. unput_part (SayOver under (entries_of c.next_line.result.1.now) under) (Over c.args.head.now under units) fault (λ over.
+    IfErr-weaker c.put_unchanged.result (IsUnput (SayOver under (commands_of c.next_line.result.1.now) under)) (IsUnput (Over c.args.head.now under units))
+    (λ fault. unput_part (SayOver under (commands_of c.next_line.result.1.now) under) (Over c.args.head.now under units) fault (λ over.
     let found = found_head c.args.head.now under over.0 units c.args.text.now c.next_line.result.0.now c.next_line.result.1.now are is c.next_line.ensures.cut over.1 in
     ⊎_elim
     (λ same. absurd (false≢true (sym c.if-eq.false ∙ c.eq.ensures ∙ (pointwise_decides unsigned_Decides c.next_line.result.0.now c.args.head.now).1 same)))

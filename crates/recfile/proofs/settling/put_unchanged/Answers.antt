@@ -3,7 +3,7 @@ use Rattle.std.specs.List.{All}
 use Rattle.std.proofs.lemmas.Bool.{false≢true}
 use Rattle.std.proofs.lemmas.Result.{err_from_is_err_and}
 use Rattle.rec_types.specs.Contents.{Contents}
-use Rattle.command_text.specs.Script.{entries_of}
+use Rattle.command_text.specs.Script.{commands_of}
 use Rattle.record_file.specs.Durable.{overlay}
 use Rattle.recfile.specs.Beside.{IsUnput}
 use Rattle.recfile.specs.LogOver.{SayOver, values_at}
@@ -17,7 +17,7 @@ pub returns-then-eq-clause-over : goal.returns-then-eq-clause-over
 returns-then-eq-clause-over g c sound =
     let t = g.T.TableState in
     let under = t.contents c.args.table.now in
-    let es = writes_said (entries_of c.args.text.now) in
+    let es = writes_said (commands_of c.args.text.now) in
     let mid : IsTrue (t.sound c.values_of.new.table) = c.values_of.ensures.sound ∙ sound in
     let late : IsTrue (t.sound c.overlay_text.new.table) = c.overlay_text.ensures.sound ∙ mid in
     let made : t.contents c.overlay_text.new.table ≡ overlay under es = c.in_ok-overlay_text.ensures.said mid ∙ ap (λ (m : Contents). overlay m es) c.values_of.ensures.same in
@@ -33,7 +33,7 @@ returns-clause-fault g c sound = inr (
   λ over.
       let t = g.T.TableState in
       let under = t.contents c.args.table.now in
-      let es = writes_said (entries_of c.args.text.now) in
+      let es = writes_said (commands_of c.args.text.now) in
       let mid : IsTrue (t.sound c.values_of.new.table) = c.values_of.ensures.sound ∙ sound in
       let late : IsTrue (t.sound c.overlay_text.new.table) = c.overlay_text.ensures.sound ∙ mid in
       let made : t.contents c.overlay_text.new.table ≡ overlay under es = c.in_ok-overlay_text.ensures.said mid ∙ ap (λ (m : Contents). overlay m es) c.values_of.ensures.same in
@@ -45,7 +45,7 @@ pub returns-in_err-overlay_text-clause-fault : goal.returns-in_err-overlay_text-
 returns-in_err-overlay_text-clause-fault g c sound =
     let t = g.T.TableState in
     let under = t.contents c.args.table.now in
-    let es = entries_of c.args.text.now in
+    let es = commands_of c.args.text.now in
     let p = err_from_is_err_and c.from_residual-in_err-overlay_text.result c.from_residual-in_err-overlay_text.ensures.1 in
     subst (λ (r : Result (Unit {0}) FileFault). IfErr r (IsUnput (SayOver under es under))) (sym p.1)
     (unput_fault (All IsLogCommand es) (SayOver under es under) c.in_err-overlay_text.field-0.0 p.0 p.2 (λ over. over.0) (c.in_err-overlay_text.ensures.refused (c.values_of.ensures.sound ∙ sound)))

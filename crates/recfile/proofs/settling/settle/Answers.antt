@@ -10,7 +10,7 @@ use Rattle.page_journal.specs.Logging.{HasLog, IsTextOf}
 use Rattle.page_journal.specs.LoggedStores.{commits_in}
 use Rattle.page_journal.specs.KeptStores.{KeptStored}
 use Rattle.recfile.specs.Beside.{IsSettledWith, IsSettlingFault, LeavesFiles}
-use Rattle.recfile.specs.FileFaults.{is_device, is_device_answer}
+use Rattle.recfile.specs.FileFaults.{is_file_device, is_device_answer}
 use Rattle.recfile.specs.Kept.{CountsClosing}
 use Rattle.recfile.specs.LogOver.{Finds, FindsLog, HoldsRecords, head_line}
 use Rattle.recfile.specs.Settling.{FindsAny, IsUnsettled, PutsRight}
@@ -28,7 +28,7 @@ pub returns-in-Err : goal.returns-in-Err
 returns-in-Err g c =
     let began = g.D.DiskState.began c.args.disk in
     let before = g.D.DiskState.failures c.args.disk in
-    let counts : g.D.DiskState.failures c.in-Err.disk ≡ counted before (is_device c.from.result) = c.in-Err.ensures.device ∙ ap (counted before) (device_of_recovery c.in-Err.fault) ∙ ap (λ (f : FileFault). counted before (is_device f)) (sym c.from.ensures) in
+    let counts : g.D.DiskState.failures c.in-Err.disk ≡ counted before (is_file_device c.from.result) = c.in-Err.ensures.device ∙ ap (counted before) (device_of_recovery c.in-Err.fault) ∙ ap (λ (f : FileFault). counted before (is_file_device f)) (sym c.from.ensures) in
     record {
       kept = λ st order records finds left since.
           let stands = c.in-Err.ensures.stopped st left since in
@@ -151,11 +151,11 @@ returns-in-Err-found_commits g c =
     let here = (goal.at.returns-in-Err-found_commits g c).After-found_commits in
     let first = d.began c.args.disk in
     let new = c.let_go.result.0 in
-    let counts : d.failures new ≡ counted (d.failures c.args.disk) (is_device c.from-in-Err-found_commits.result) =
+    let counts : d.failures new ≡ counted (d.failures c.args.disk) (is_file_device c.from-in-Err-found_commits.result) =
     ap d.failures (c.let_go.ensures.same (λ sealed. absurd (cc (sym (state g here) ∙ sealed))))
     ∙ c.in-Err-found_commits.ensures.failures
     ∙ (λ i. counted (c.in-Ok.ensures.failures i) (device_of_store (Err c.in-Err-found_commits.fault) i))
-    ∙ ap (λ (f : FileFault). counted (d.failures c.args.disk) (is_device f)) (sym c.from-in-Err-found_commits.ensures) in
+    ∙ ap (λ (f : FileFault). counted (d.failures c.args.disk) (is_file_device f)) (sym c.from-in-Err-found_commits.ensures) in
     let outside = store_outside c.in-Err-found_commits.fault c.from-in-Err-found_commits.result c.from-in-Err-found_commits.ensures in
     let leaves : IsTrue (d.steady c.args.disk) → (left : Files) → d.left_since new 0 left → LeavesFiles first left = λ st left since.
     let old = still_unlogged (d.began c.found_commits.new.self.disk) c.found_commits.new.self.log (commits_in c.found_commits.new.self.log (d.seen c.found_commits.new.self.disk)) c.found_commits.new.self.doubt refl (log g here) in

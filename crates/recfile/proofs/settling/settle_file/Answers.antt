@@ -6,13 +6,13 @@ use Rattle.rec_types.specs.LimitBounds.{Bounds, most_records}
 use Rattle.rec_types.specs.Table.{counted}
 use Rattle.page_store.specs.Guards.{Unsealed}
 use Rattle.page_journal.specs.KeptStores.{failures_with}
-use Rattle.btree_delete.specs.CleanFile.{IsFirst, is_device_fault}
+use Rattle.btree_delete.specs.CleanFile.{IsFirst, is_open_device_fault}
 use Rattle.commit_paper.specs.Text.{units_of}
 use Rattle.page_journal.specs.Files.{PageFile, Files, recovered}
 use Rattle.page_journal.specs.LoggedStores.{commits_in}
 use Rattle.btree_delete.specs.TableView.{IsClosed, table_contents}
 use Rattle.recfile.specs.Beside.{IsHeadFault, IsUnput, LeavesEnded}
-use Rattle.recfile.specs.FileFaults.{is_device, is_device_answer}
+use Rattle.recfile.specs.FileFaults.{is_file_device, is_device_answer}
 use Rattle.recfile.specs.Kept.{CountsClosing, opening_file}
 use Rattle.recfile.specs.Settling.{FindsAny}
 use Rattle.recfile.specs.LogOver.{Finds, HoldsRecords, IsLogOver, head_line}
@@ -43,7 +43,7 @@ returns-in-Err-clause-failures g c =
     let same = c.let_go.ensures.same (unsealed new.state new.kept new.refusals (Unsealed 0) (guard ∙ unused) refl) in
     subst (λ (r : Result (Unit {0}) FileFault). CountsClosing (d.failures old.disk) (is_err r) (is_device_answer r) (d.failures c.let_go.result.0)) (sym c.let_go.ensures.fault) (record {
       again = false;
-      failures = ap d.failures same ∙ disk_counts old.state new.state old.kept new.kept (d.failures old.disk) old.refusals (d.failures new.disk) new.refusals (is_device c.in-Err.fault) unused guard c.in-Err.ensures.failures;
+      failures = ap d.failures same ∙ disk_counts old.state new.state old.kept new.kept (d.failures old.disk) old.refusals (d.failures new.disk) new.refusals (is_file_device c.in-Err.fault) unused guard c.in-Err.ensures.failures;
       once = λ ok. refl;
     })
 
@@ -59,10 +59,10 @@ returns-clause-failures g c =
     let guard = c.in-Err-open_from.ensures.back.stays.guard in
     let same = c.let_go-in-Err-open_from.ensures.same (unsealed new.state new.kept new.refusals (Unsealed 0) (guard ∙ still) refl) in
     let before = disk_counts old.state mid.state old.kept mid.kept (d.failures old.disk) old.refusals (d.failures mid.disk) mid.refusals false unused c.head_of.ensures.stays.guard c.in-Ok.ensures.failures in
-    let after = disk_counts mid.state new.state mid.kept new.kept (d.failures mid.disk) mid.refusals (d.failures new.disk) new.refusals (is_device_fault fault) still guard c.in-Err-open_from.ensures.back.failures in
+    let after = disk_counts mid.state new.state mid.kept new.kept (d.failures mid.disk) mid.refusals (d.failures new.disk) new.refusals (is_open_device_fault fault) still guard c.in-Err-open_from.ensures.back.failures in
     subst (λ (r : Result (Unit {0}) FileFault). CountsClosing (d.failures old.disk) (is_err r) (is_device_answer r) (d.failures c.let_go-in-Err-open_from.result.0)) (sym c.let_go-in-Err-open_from.ensures.fault) (record {
       again = false;
-      failures = ap d.failures same ∙ after ∙ (λ i. counted (before i) (device_of_opening fault i)) ∙ ap (λ (f : FileFault). counted (d.failures old.disk) (is_device f)) (sym c.from.ensures);
+      failures = ap d.failures same ∙ after ∙ (λ i. counted (before i) (device_of_opening fault i)) ∙ ap (λ (f : FileFault). counted (d.failures old.disk) (is_file_device f)) (sym c.from.ensures);
       once = λ ok. refl;
     })
 

@@ -5,7 +5,7 @@ use Rattle.std.proofs.KnownBytes.{Consumes-nil, Consumes-kept, Consumes-trans}
 use Rattle.record_file.specs.Runs.{seen_as}
 use Rattle.recfile.specs.Streams.{CallsMade}
 use Rattle.recfile.proofs.StreamLemmas.{tells_last}
-use Rattle.recfile.proofs.ShellLemmas.{come_ended, is_answered, none_so_far, ran_last, ran_to, turns_on}
+use Rattle.recfile.proofs.ShellLemmas.{come_ended, is_answered, none_so_far, ran_last, ran_to, ran_to_flush, turns_on}
 use Rattle.recfile.proofs.shell.run_answered.Goals as goal
 
 taken_length : (n : ℕ) (bytes : List ℕ) → n ≤ length bytes → length (take n bytes) ≡ n
@@ -46,6 +46,14 @@ returns-in_err-answer_lines-in-Ok-clause-ran g c =
     let told = err_from_is_err_and c.from_residual-in_err-answer_lines-in-Ok.result c.from_residual-in_err-answer_lines-in-Ok.ensures.1 in
     ran_to c.args.strict (g.R.CountedRead.left c.args.reader.now) (g.R.CountedRead.left c.loop-turn.reader) (g.R.CountedRead.left c.read_answered.new.reader) (g.W.CountedWrite.held c.args.writer.now) (g.W.CountedWrite.held c.answer_lines.new.writer) _ _ known.0 (take c.in-Ok.n c.read_answered.new.to) c.from_residual-in_err-answer_lines-in-Ok.result c.in_err-answer_lines-in-Ok.field-0.0 (told.1 ∙ ap Err told.2) known.1 c.in-Ok.ensures.bytes.0
     (c.in_err-answer_lines-in-Ok.ensures.answered (g.W.CountedWrite.held c.args.writer.now) (seen_as g.K.Keeper.keeps g.T.TableState c.args.file.now) known.0 known.2)
+
+pub returns-then-asks_flush-clause-ran : goal.returns-then-asks_flush-clause-ran
+returns-then-asks_flush-clause-ran g c =
+    let known = c.loop-turn.invariant in
+    ran_to_flush c.args.strict (g.R.CountedRead.left c.args.reader.now) (g.R.CountedRead.left c.loop-turn.reader) (g.R.CountedRead.left c.read_answered.new.reader) (g.W.CountedWrite.held c.args.writer.now) (g.W.CountedWrite.held c.loop-turn.writer) _ _ known.0 (take c.in-Ok.n c.read_answered.new.to) c.loop-turn.part c.loop-turn.counts _ _ known.1 c.in-Ok.ensures.bytes.0 known.2 (c.asks_flush.ensures.asks c.if-asks_flush.true) refl refl
+
+pub returns-then-asks_flush-clause-failed : goal.returns-then-asks_flush-clause-failed
+returns-then-asks_flush-clause-failed g c = record { read = c.in-Ok.ensures.failed.read ∙ c.loop-turn.invariant.5; written = c.in-Ok.ensures.failed.written ∙ c.loop-turn.invariant.6 }
 
 pub returns-clause-ran : goal.returns-clause-ran
 returns-clause-ran g c =

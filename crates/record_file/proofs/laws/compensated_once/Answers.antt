@@ -1,7 +1,7 @@
 use Rattle.std.proofs.Common.{◌≡◌, List, [], ◌∷◌, ◌++◌, length, filter, slice_get, Some, None, refl, sym, ap, ◌∙◌, arith}
 use Rattle.std.proofs.lemmas.List.{append-nil, append_cancel_left}
 use Rattle.rec_types.specs.History.{Change, taken_back}
-use Rattle.tx_log.specs.Log.{is_change}
+use Rattle.tx_log.specs.Log.{tells_change}
 use Rattle.tx_log.specs.LogLaws.{undoes}
 use Rattle.tx_log.specs.declared.log_record.LogRecord.{LogRecord}
 use Rattle.tx_log.specs.declared.log_record.LogRecord.TheVariants.{Update}
@@ -36,7 +36,7 @@ pub returns-clause-unlogged : goal.returns-clause-unlogged
 returns-clause-unlogged c = λ old new logged same was is once.
     unlogged old.log new.log once.0 logged same once.1
     (once.2 0 (Update 1 0 one (97 ∷ []) None (Some (120 ∷ []))) (wrote 1 97 120) (taken_back (wrote 1 97 120))
-    (ap (λ (rs : List LogRecord). slice_get (filter is_change rs) 0) logged) (ap (λ (h : List Change). slice_get h 0) was) (ap (λ (h : List Change). slice_get h 0) is))
+    (ap (λ (rs : List LogRecord). slice_get (filter tells_change rs) 0) logged) (ap (λ (h : List Change). slice_get h 0) was) (ap (λ (h : List Change). slice_get h 0) is))
   where
     unlogged : (old new more : List LogRecord) → old ≡ Update 1 0 one (97 ∷ []) None (Some (120 ∷ [])) ∷ [] → new ≡ old → new ≡ old ++ more → length (filter (undoes (Update 1 0 one (97 ∷ []) None (Some (120 ∷ [])))) more) ≡ 1 → ⊥
     unlogged old new more logged same grown one_more =

@@ -2,7 +2,7 @@ use Rattle.std.proofs.Common.{rules, List, None, cond, reverse, sym, ap, ◌∙�
 use Rattle.std.specs.List.{list_any}
 use Rattle.tx_log.proofs.HoldingLemmas.{freed_more}
 use Rattle.tx_log.proofs.WalkSteps.{walk_link, link_end}
-use Rattle.tx_log.specs.Holdings.{held}
+use Rattle.tx_log.specs.Holdings.{holdings_in}
 use Rattle.tx_log.specs.Log.{chain}
 use Rattle.tx_log.specs.Walks.{is_at}
 use Rattle.tx_log.specs.declared.log_record.LogRecord.{LogRecord}
@@ -22,16 +22,16 @@ loop-link-preserved c =
     let met = walk_link rs c.loop-link.at c.in-Some.link c.requires.numbered (sym c.in-Some.ensures) in
     let step = met.step in (
       omega (arith, step.falls, step.low, met.lsn, met.prev, c.loop-link.invariant.0),
-      λ q. ap (λ (us : List LogRecord). cond (list_any (is_at q) us) None (held c.swap_remove.new.self q)) (ap (chain rs) (sym met.prev) ∙ step.tail)
+      λ q. ap (λ (us : List LogRecord). cond (list_any (is_at q) us) None (holdings_in c.swap_remove.new.self q)) (ap (chain rs) (sym met.prev) ∙ step.tail)
           ∙ ap (cond (list_any (is_at q) step.rest) None) (c.swap_remove.ensures.updates.0 q)
-          ∙ freed_more c.in-Some.link.key q step.update step.rest (held c.loop-link.holdings q) (ap (λ (x : LiveChange). x.key) step.told ∙ met.key)
-          ∙ ap (λ (us : List LogRecord). cond (list_any (is_at q) us) None (held c.loop-link.holdings q)) (sym step.is)
+          ∙ freed_more c.in-Some.link.key q step.update step.rest (holdings_in c.loop-link.holdings q) (ap (λ (x : LiveChange). x.key) step.told ∙ met.key)
+          ∙ ap (λ (us : List LogRecord). cond (list_any (is_at q) us) None (holdings_in c.loop-link.holdings q)) (sym step.is)
           ∙ c.loop-link.invariant.1 q,
     )
 
 pub returns : goal.returns
 returns c = λ q.
-    ap (λ (us : List LogRecord). cond (list_any (is_at q) us) None (held c.loop-link.holdings q)) (sym (link_end (reverse c.args.log.now.items) c.loop-link.at (sym c.in_default.ensures)))
+    ap (λ (us : List LogRecord). cond (list_any (is_at q) us) None (holdings_in c.loop-link.holdings q)) (sym (link_end (reverse c.args.log.now.items) c.loop-link.at (sym c.in_default.ensures)))
     ∙ c.loop-link.invariant.1 q
 
 pub loop-link-init : goal.loop-link-init

@@ -3,7 +3,7 @@ use Rattle.std.proofs.lemmas.Grind.{elements}
 use Rattle.tx_log.proofs.Chains.{same_number}
 use Rattle.tx_log.proofs.KeptLogLemmas.{some_of}
 use Rattle.tx_log.proofs.KeyPlaces.{key_read, key_write, taken_there}
-use Rattle.tx_log.specs.Holdings.{held, same_bytes}
+use Rattle.tx_log.specs.Holdings.{holdings_in, same_bytes}
 use Rattle.tx_log.specs.declared.holding.Holding.{Holding}
 use Rattle.tx_log.proofs.holding.lower.Goals as goal
 
@@ -21,7 +21,7 @@ returns-then-last c = λ h there.
       ap (λ (x : Holding). x.absent) read_was,
       λ q.
           taken_there m c.swap_remove_index.new.self k at c.swap_remove_index.result stands c.swap_remove_index.ensures.entry c.swap_remove_index.ensures.updates q
-          ∙ ap (λ (b : Bool). cond (same_bytes k q) (cond b None (Some (record { owner = h.owner; live = h.live - 1; absent = c.args.absent }))) (held m q)) (sym (eq-eqb h.live 1 one)),
+          ∙ ap (λ (b : Bool). cond (same_bytes k q) (cond b None (Some (record { owner = h.owner; live = h.live - 1; absent = c.args.absent }))) (holdings_in m q)) (sym (eq-eqb h.live 1 one)),
     )
 
 pub returns-else-last : goal.returns-else-last
@@ -41,8 +41,8 @@ returns-else-last c = λ h there.
       ap (λ (x : Holding). x.absent) read_was,
       λ q.
           key_write m k at (record { owner = d.owner; live = d.live - 1; absent = will }) stands q
-          ∙ ap (λ (x : Holding). cond (same_bytes k q) (Some (record { owner = x.owner; live = x.live - 1; absent = will })) (held m q)) same
-          ∙ ap (λ (b : Bool). cond (same_bytes k q) (cond b None (Some (record { owner = h.owner; live = h.live - 1; absent = will }))) (held m q)) (sym more),
+          ∙ ap (λ (x : Holding). cond (same_bytes k q) (Some (record { owner = x.owner; live = x.live - 1; absent = will })) (holdings_in m q)) same
+          ∙ ap (λ (b : Bool). cond (same_bytes k q) (cond b None (Some (record { owner = h.owner; live = h.live - 1; absent = will }))) (holdings_in m q)) (sym more),
     )
   where
     differs_from : (n : ℕ) → (n ≡ 1 → ⊥) → eqb n 1 ≡ false

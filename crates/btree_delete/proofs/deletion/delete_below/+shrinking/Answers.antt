@@ -12,7 +12,7 @@ use Rattle.btree_node.proofs.ElementOrderLemmas.{Each_at}
 use Rattle.btree_insert.specs.declared.bounds.Bounds.{Bounds}
 use Rattle.btree_insert.specs.Bounds.{Between, Over, Under, son_bounds}
 use Rattle.btree_insert.specs.Contents.{lookup_in, set_in}
-use Rattle.btree_insert.specs.Growth.{IsOutside, IsWithin}
+use Rattle.btree_insert.specs.Growth.{IsNotOfPages, IsWithin}
 use Rattle.btree_insert.specs.Reached.{Leads}
 use Rattle.btree_insert.specs.declared.tree.TreeFault.{TreeFault}
 use Rattle.btree_insert.specs.PageTrees.{Apart, TreeAt, Body, Spells, kind_of_level}
@@ -22,9 +22,9 @@ use Rattle.btree_insert.proofs.ElementMapLemmas.{lookup-here}
 use Rattle.btree_insert.proofs.PlaceLemmas.{son_within}
 use Rattle.btree_insert.proofs.HeadNodeLemmas.{Top, top, read_top, head_each}
 use Rattle.btree_delete.specs.declared.deletion.subtree.Subtree.{Subtree}
-use Rattle.btree_delete.specs.Treatment.{element_at, son_at, brothers}
+use Rattle.btree_delete.specs.Treatment.{element_at, son_number, brothers}
 use Rattle.btree_delete.specs.Shrinking.{WritesOrHandsUp, MayBeUnderfull, StaysUnvisited, UnderfullGoesUp, TreatsAndSettles, RemovesBelow, gone, record_gone, sought, Removal, Whole, Underfull, removal, removal_if}
-use Rattle.btree_delete.specs.Subtrees.{head_of, son_tree, behind, left_bounds, head_page}
+use Rattle.btree_delete.specs.Subtrees.{head_of, son_tree, behind_element, left_bounds, head_page}
 use Rattle.btree_delete.specs.Tidy.{is_visited, Untouched, IsAwaited, IsTidy, IsVisit, visits, done_so_far, so_far}
 use Rattle.btree_delete.specs.PagesLeft.{pages_freed, with_edit}
 use Rattle.btree_delete.specs.Deleted.{MayStop}
@@ -91,7 +91,7 @@ delete_below-returns-in_err-shrunk-in-Ok-clause-removes g t c = λ steady least 
     let key_is = sought_here c.args.tree.now.order (at c.args.pages.now.pages) (c.args.tree.now.height - 1) n es first.below c.args.key.now i first.body (λ given is. (c.in-Ok.ensures.found given is c.in_ok-visit.ensures.stands.ascends).here ([], [])) (λ none. (c.in-Ok.ensures.first none).0) (λ none. omega (arith, (c.in-Ok.ensures.first none).1)) in
     let some = found_some c.args.tree.now.order (at c.args.pages.now.pages) (c.args.tree.now.height - 1) n es first.below (element_at n i).0 i first.body between.ascends (is_at n.elements.items i c.in_ok-visit.ensures.stands.ascends c.in-Ok.ensures.within) in
     rw (p.1, p.2) (outside_stops (lookup_in (sought c.args.key.now es) es) c.in_err-shrunk-in-Ok.field-0.0 (subst (λ (key : List ℕ). IsSome (lookup_in key es)) key_is some)
-    (asked_here g t at_goal.After-delete_here (λ _ _ _. IsOutside c.in_err-shrunk-in-Ok.field-0.0) steady least es us c.in_ok-visit.ensures.visited.added first low between apart unvisited c.in_err-shrunk-in-Ok.ensures.removes))
+    (asked_here g t at_goal.After-delete_here (λ _ _ _. IsNotOfPages c.in_err-shrunk-in-Ok.field-0.0) steady least es us c.in_ok-visit.ensures.visited.added first low between apart unvisited c.in_err-shrunk-in-Ok.ensures.removes))
 
 pub delete_below-returns-in_ok-shrunk-in-Ok-clause-removes : goal.delete_below-returns-in_ok-shrunk-in-Ok-clause-removes
 delete_below-returns-in_ok-shrunk-in-Ok-clause-removes g t c = λ steady least es us low tree between apart unvisited.
@@ -188,7 +188,7 @@ module _ (g : given.Over) (t : ℕ) (c : delete_below-After-delete_below g t) wh
         c.tree_of_son-below.ensures (ap (λ (v : PagesView). v.pages) c.visit.ensures.reading.unchanged) (ap (λ (v : PagesView). v.steady) c.visit.ensures.reading.unchanged ∙ steady) visited_is between apart unvisited
 
     taken : (new : Stands) (Same : ℕ → Type 0) (s : ToRemove new Same least es us) (r r2 : Option Removal) → r ≡ r2 → Answers r
-        → RemovesBelow (head_page c.args.tree.now.order c.args.tree.now.order levels (son_at c.visit.new.node c.in-Err.i)) (with_edit (at c.args.pages.now.pages) c.delete_below.new.edit) s.son.xs s.son.mine (visits (c.args.visited.now.items ++ c.args.tree.now.page ∷ []) c.delete_below.new.visited.items) (sought c.args.key.now es) r2
+        → RemovesBelow (head_page c.args.tree.now.order c.args.tree.now.order levels (son_number c.visit.new.node c.in-Err.i)) (with_edit (at c.args.pages.now.pages) c.delete_below.new.edit) s.son.xs s.son.mine (visits (c.args.visited.now.items ++ c.args.tree.now.page ∷ []) c.delete_below.new.visited.items) (sought c.args.key.now es) r2
     taken new Same s r r2 is removing =
         called_removed (son_tree c.args.tree.now c.visit.new.node c.in-Err.i) c.tree_of_son-below.result c.args.pages.now c.visit.new.pages (c.args.visited.now.items ++ c.args.tree.now.page ∷ []) c.visit.new.visited.items c.delete_below.new.visited.items levels s.son.xs s.son.mine c.delete_below.new.edit.writes.items c.delete_below.new.edit.freed.items c.args.key.now (sought c.args.key.now es) r r2 s.called s.key_is is removing
 
@@ -226,7 +226,7 @@ module _ (g : given.Over) (t : ℕ) (c : delete_below-After-delete_below g t) wh
     short_below r e son is removing =
         let T = c.args.tree.now in
         let P = at c.args.pages.now.pages in
-        let p = son_at c.visit.new.node c.in-Err.i in
+        let p = son_number c.visit.new.node c.in-Err.i in
         let visited2 = c.delete_below.new.visited.items in
         let New = Kin T.order P changed visited2 levels p son in
         let s = son_of New (IsBeside P changed visited2 p) (λ s xs vs is beside. kin_move T.order P changed visited2 levels p son s xs vs is beside) in
@@ -261,7 +261,7 @@ module _ (g : given.Over) (t : ℕ) (c : delete_below-In-Some-Underfull g t) whe
       let is = ap (removal_if c.delete_below.new.node) (c.in-Some-Underfull.is ∙ ap Some c.in-Some-Underfull.field-0-is) in
       went_up (son_tree c.args.tree.now c.visit.new.node c.in-Err.i) c.tree_of_son-below.result c.args.key.now c.delete_below.new.edit.writes.items c.delete_below.new.edit.freed.items (removal_if c.delete_below.new.node c.in_ok-removed-in-Err.field-0) (Underfull c.in-Some-Underfull.removed c.delete_below.new.node) c.tree_of_son-below.ensures is c.in_ok-removed-in-Err.ensures.up
 
-  son_visited : IsVisit c.visit.new.visited.items c.delete_below.new.visited.items c.delete_below.new.edit.writes.items c.delete_below.new.edit.freed.items (c.args.tree.now.height - 1) (son_at c.visit.new.node c.in-Err.i)
+  son_visited : IsVisit c.visit.new.visited.items c.delete_below.new.visited.items c.delete_below.new.edit.writes.items c.delete_below.new.edit.freed.items (c.args.tree.now.height - 1) (son_number c.visit.new.node c.in-Err.i)
   son_visited = subst (λ (x : Subtree). IsVisit c.visit.new.visited.items c.delete_below.new.visited.items c.delete_below.new.edit.writes.items c.delete_below.new.edit.freed.items x.height x.page) c.tree_of_son-below.ensures c.in_ok-removed-in-Err.ensures.visits.visit
 
   head_visited : is_visited c.visit.new.visited.items c.args.tree.now.page ≡ true
@@ -298,7 +298,7 @@ delete_below-treat_and_settle-requires-clause-can g t c =
 pub delete_below-treat_and_settle-requires-clause-other : goal.delete_below-treat_and_settle-requires-clause-other
 delete_below-treat_and_settle-requires-clause-other g t c =
     let p = (goal.at.delete_below-treat_and_settle-requires-clause-other g t c).In-Some-Underfull in
-    λ is. visited_differs c.visit.new.visited.items c.args.tree.now.page (son_at c.visit.new.node c.in-Err.i) (head_visited g t p) (son_visited g t p).fresh (sym (ap (λ (x : Subtree). x.page) c.tree_left-left.ensures) ∙ is)
+    λ is. visited_differs c.visit.new.visited.items c.args.tree.now.page (son_number c.visit.new.node c.in-Err.i) (head_visited g t p) (son_visited g t p).fresh (sym (ap (λ (x : Subtree). x.page) c.tree_left-left.ensures) ∙ is)
 
 pub delete_below-treat_and_settle-requires-clause-awaited : goal.delete_below-treat_and_settle-requires-clause-awaited
 delete_below-treat_and_settle-requires-clause-awaited g t c =
@@ -337,15 +337,15 @@ module _ (g : given.Over) (t : ℕ) (c : delete_below-After-tree_left-left g t) 
     ask_below X right left =
         let P = at c.args.pages.now.pages in
         let fs = c.delete_below.new.edit.freed.items in
-        ask X left_tree.order P (after P c.delete_below.new.edit.writes.items fs) c.delete_below.new.visited.items 0 (length fs) (c.args.tree.now.height - 1 - 1) (left_tree.height - 1) left_tree.page (son_at c.visit.new.node c.in-Err.i) c.delete_below.new.node c.visit.new.node (set_in (sought c.args.key.now es) None es) us left_tree.bounds c.in-Err.i (sym up)
+        ask X left_tree.order P (after P c.delete_below.new.edit.writes.items fs) c.delete_below.new.visited.items 0 (length fs) (c.args.tree.now.height - 1 - 1) (left_tree.height - 1) left_tree.page (son_number c.visit.new.node c.in-Err.i) c.delete_below.new.node c.visit.new.node (set_in (sought c.args.key.now es) None es) us left_tree.bounds c.in-Err.i (sym up)
         c.in_ok-visit.ensures.some c.in-Err.ensures.within refl short.between short.broken (to_right (λ _ _. X) right) (to_left (λ _ _ _. X) left)
 
     module _ (least : ℕ) (low : least ≤ c.args.tree.now.order) (ws3 : List (ℕ × List ℕ)) (fs3 visited3 : List ℕ) (r : Removal) where
       abbrev Settled : Subtree → ℕ → Node → Node → ℕ → Type 0
       Settled x j L R q = (visited3 ≡ c.delete_below.new.visited.items ++ q ∷ []) × TreatsAndSettles x c.visit.new.node (brothers j L R) c.in-Some-Underfull.removed (so_far c.delete_below.new.edit) (done_so_far ws3 fs3) r
 
-      treat_below : Untouched c.delete_below.new.edit.writes.items c.delete_below.new.edit.freed.items (son_at c.visit.new.node c.in-Err.i)
-          → AsksRight (λ x o. Settled x c.in-Err.i c.delete_below.new.node o (son_at c.visit.new.node (suc c.in-Err.i))) → AsksLeft (λ x j o. Settled x j o c.delete_below.new.node (son_at c.visit.new.node j))
+      treat_below : Untouched c.delete_below.new.edit.writes.items c.delete_below.new.edit.freed.items (son_number c.visit.new.node c.in-Err.i)
+          → AsksRight (λ x o. Settled x c.in-Err.i c.delete_below.new.node o (son_number c.visit.new.node (suc c.in-Err.i))) → AsksLeft (λ x j o. Settled x j o c.delete_below.new.node (son_number c.visit.new.node j))
           → RemovesBelow (head_of c.args.tree.now least) (pages_freed (at c.args.pages.now.pages) (after (at c.args.pages.now.pages) ws3 fs3) 0 (length fs3)) es us (visits c.args.visited.now.items visited3) (sought c.args.key.now es) (Some r)
       treat_below kept right left =
           let T = c.args.tree.now in
@@ -356,9 +356,9 @@ module _ (g : given.Over) (t : ℕ) (c : delete_below-After-tree_left-left g t) 
           let fs = c.delete_below.new.edit.freed.items in
           let e = c.in-Some-Underfull.removed in
           let K = sought c.args.key.now es in
-          let treated = treat_son T.order T.height P c.delete_below.new.visited.items visited3 0 (T.height - 1 - 1) (T.height - 1) T.page (son_at n i) c.delete_below.new.node n e r ws ws3 fs fs3 (set_in K None es) us left_tree.bounds i c.requires.tree.order.0 (sym up) c.in_ok-visit.ensures.some c.in-Err.ensures.within refl short.between kept c.in_ok-removed-in-Err.ensures.visits.tidy.unvisited short.broken
-          (to_right (λ x o. Settled x i c.delete_below.new.node o (son_at n (suc i))) right) (to_left (λ x j o. Settled x j o c.delete_below.new.node (son_at n j)) left) in
-          let drops = drop_treated T.order P ws ws3 fs fs3 least T.height (T.height - 1 - 1) T.page (son_at n i) es us left_tree.bounds n c.delete_below.new.node e e r c.delete_below.new.visited.items visited3 K c.requires.tree.order.0 low short.broken treated (sym c.in_ok-visit.ensures.stands.kind ∙ short.inner) refl short.key_is short.value in
+          let treated = treat_son T.order T.height P c.delete_below.new.visited.items visited3 0 (T.height - 1 - 1) (T.height - 1) T.page (son_number n i) c.delete_below.new.node n e r ws ws3 fs fs3 (set_in K None es) us left_tree.bounds i c.requires.tree.order.0 (sym up) c.in_ok-visit.ensures.some c.in-Err.ensures.within refl short.between kept c.in_ok-removed-in-Err.ensures.visits.tidy.unvisited short.broken
+          (to_right (λ x o. Settled x i c.delete_below.new.node o (son_number n (suc i))) right) (to_left (λ x j o. Settled x j o c.delete_below.new.node (son_number n j)) left) in
+          let drops = drop_treated T.order P ws ws3 fs fs3 least T.height (T.height - 1 - 1) T.page (son_number n i) es us left_tree.bounds n c.delete_below.new.node e e r c.delete_below.new.visited.items visited3 K c.requires.tree.order.0 low short.broken treated (sym c.in_ok-visit.ensures.stands.kind ∙ short.inner) refl short.key_is short.value in
           let unvisited3 = still_unvisited c.args.visited.now.items c.delete_below.new.visited.items visited3 T.page treated.son.t us short.mine short.head_in short.mine_in (short.broken.loses.left.within treated.son.t (inr treated.son.t_in)) short.unvisited treated.son.visited_is in
           subst (λ (l : ℕ). RemovesBelow (head_page T.order least l T.page) (pages_freed P (after P ws3 fs3) 0 (length fs3)) es us (visits c.args.visited.now.items visited3) K (Some r)) (sym up) (record { drops = drops; unvisited = unvisited3 })
 
@@ -370,7 +370,7 @@ delete_below-returns-in_err-shrunk-in-Some-Underfull-clause-removes g t c = λ s
     let short = short_below g t at_goal.After-delete_below steady least es us c.in_ok-visit.ensures.visited.added c.in_ok-visit.ensures.stands.ascends first between apart unvisited (removal_if c.delete_below.new.node c.in_ok-removed-in-Err.field-0) c.in-Some-Underfull.removed c.delete_below.new.node (ap (removal_if c.delete_below.new.node) (c.in-Some-Underfull.is ∙ ap Some c.in-Some-Underfull.field-0-is)) c.in_ok-removed-in-Err.ensures.removes in
     let refused = c.in_err-shrunk-in-Some-Underfull in
     rw (p.1, p.2) (outside_stops (lookup_in (sought c.args.key.now es) es) refused.field-0.0 (ap is_some short.value)
-    (ask_below g t at_goal.After-tree_left-left es us steady (two g t at_goal.After-delete_below) short (IsOutside refused.field-0.0) refused.ensures.right refused.ensures.left))
+    (ask_below g t at_goal.After-tree_left-left es us steady (two g t at_goal.After-delete_below) short (IsNotOfPages refused.field-0.0) refused.ensures.right refused.ensures.left))
 
 pub delete_below-returns-in_ok-shrunk-in-Some-Underfull-clause-removes : goal.delete_below-returns-in_ok-shrunk-in-Some-Underfull-clause-removes
 delete_below-returns-in_ok-shrunk-in-Some-Underfull-clause-removes g t c = λ steady least es us low tree between apart unvisited.
@@ -402,7 +402,7 @@ delete_below-returns-in_ok-shrunk-in-Some-Underfull-clause-visits g t c =
     let done = c.in_ok-shrunk-in-Some-Underfull.ensures in record {
       in_use = c.in_ok-visit.ensures.in_use;
       tidy = search rules;
-      visit = treated_visit c.args.visited.now.items c.visit.new.visited.items c.delete_below.new.visited.items c.treat_and_settle.new.visited.items c.args.tree.now.height c.args.tree.now.page (son_at c.visit.new.node c.in-Err.i) c.delete_below.new.edit.writes.items c.treat_and_settle.new.edit.writes.items c.delete_below.new.edit.freed.items c.treat_and_settle.new.edit.freed.items c.in_ok-visit.ensures.visited.added c.in_ok-visit.ensures.visited.fresh (omega (arith, c.requires.tree.height, c.if-tree-eq1.false)) made
+      visit = treated_visit c.args.visited.now.items c.visit.new.visited.items c.delete_below.new.visited.items c.treat_and_settle.new.visited.items c.args.tree.now.height c.args.tree.now.page (son_number c.visit.new.node c.in-Err.i) c.delete_below.new.edit.writes.items c.treat_and_settle.new.edit.writes.items c.delete_below.new.edit.freed.items c.treat_and_settle.new.edit.freed.items c.in_ok-visit.ensures.visited.added c.in_ok-visit.ensures.visited.fresh (omega (arith, c.requires.tree.height, c.if-tree-eq1.false)) made
           (λ q is other page. done.settled.others q is other (λ same. page (same ∙ ap (λ (x : Subtree). x.page) c.tree_left-left.ensures))) done.settled.stays done.settled.one_more;
     }
 
@@ -418,7 +418,7 @@ module _ (g : given.Over) (t : ℕ) (c : delete_below-After-delete_below g t) wh
       → (c.visit.new.visited.items ≡ c.args.visited.now.items ++ c.args.tree.now.page ∷ []) → is_visited c.args.visited.now.items c.args.tree.now.page ≡ false
       → IsVisit c.args.visited.now.items c.delete_below.new.visited.items c.delete_below.new.edit.writes.items c.delete_below.new.edit.freed.items c.args.tree.now.height c.args.tree.now.page
   stays_visited made visited unvisited =
-      whole_visit c.args.visited.now.items c.visit.new.visited.items c.delete_below.new.visited.items c.args.tree.now.height c.args.tree.now.page (son_at c.visit.new.node c.in-Err.i) c.delete_below.new.edit.writes.items c.delete_below.new.edit.freed.items visited unvisited (omega (arith, c.requires.tree.height, c.if-tree-eq1.false))
+      whole_visit c.args.visited.now.items c.visit.new.visited.items c.delete_below.new.visited.items c.args.tree.now.height c.args.tree.now.page (son_number c.visit.new.node c.in-Err.i) c.delete_below.new.edit.writes.items c.delete_below.new.edit.freed.items visited unvisited (omega (arith, c.requires.tree.height, c.if-tree-eq1.false))
       (subst (λ (x : Subtree). IsVisit c.visit.new.visited.items c.delete_below.new.visited.items c.delete_below.new.edit.writes.items c.delete_below.new.edit.freed.items x.height x.page) c.tree_of_son-below.ensures made)
 
 pub delete_below-returns-in-None-clause-visits : goal.delete_below-returns-in-None-clause-visits
@@ -509,7 +509,7 @@ delete_here-returns-then-tree-eq1-clause-first g t c = λ low is.
     let m = left_leaf g t p in
     let els = c.args.node.now.elements.items in
     let e = element_at c.args.node.now c.args.i in
-    let b = behind e T.bounds in
+    let b = behind_element e T.bounds in
     let here : e ≡ get_or els 0 e = get_or_default els c.args.i ([], []) e c.requires.element.place ∙ ap (λ (j : ℕ). get_or els j e) is in
     let left = leaf_behind T.order T.bounds c.args.node.now m e (as_leaf g t p).kind (omega (arith, c.requires.element.place)) (as_leaf g t p) here refl (c.remove.ensures.items ∙ ap (remove els) is) refl in
     subst (λ (fs : List ℕ). UnderfullGoesUp T.order T.height b T.page c.settle.new.edit.writes.items fs (removal m c.in_ok-settle.field-0)) (sym (ap (λ v. v.items) c.in_ok-settle.ensures.edit.freed))
@@ -550,14 +550,14 @@ module _ (g : given.Over) (t : ℕ) (c : delete_here-After-delete_below g t) whe
         answered (son_tree c.args.tree.now c.args.node.now (suc c.args.i)) c.tree_of_son-behind.result c.args.pages.now c.args.pages.now c.args.visited.now.items c.args.visited.now.items levels_behind s.son.xs s.son.mine (λ _ _ _. X) s.called removing
 
     took : (new : Stands) (Same : ℕ → Type 0) (s : ToTake new Same) (r : Option Removal) (first : Removal) → r ≡ Some first → FirstGoes r
-        → Takes c.args.tree.now.order (at c.args.pages.now.pages) changed_behind 0 (length c.delete_below.new.edit.freed.items) c.args.tree.now.order levels_behind (son_at c.args.node.now (suc c.args.i)) s.son.xs s.son.mine c.args.visited.now.items c.delete_below.new.visited.items first
+        → Takes c.args.tree.now.order (at c.args.pages.now.pages) changed_behind 0 (length c.delete_below.new.edit.freed.items) c.args.tree.now.order levels_behind (son_number c.args.node.now (suc c.args.i)) s.son.xs s.son.mine c.args.visited.now.items c.delete_below.new.visited.items first
     took new Same s r first is removing =
         let T = c.args.tree.now in
         let M = c.args.visited.now.items in
         let visited2 = c.delete_below.new.visited.items in
         let ws = c.delete_below.new.edit.writes.items in
         let fs = c.delete_below.new.edit.freed.items in
-        took_of T.order (at c.args.pages.now.pages) changed_behind 0 (length fs) T.order levels_behind (son_at c.args.node.now (suc c.args.i)) s.son.xs s.son.mine M visited2 first s.some
+        took_of T.order (at c.args.pages.now.pages) changed_behind 0 (length fs) T.order levels_behind (son_number c.args.node.now (suc c.args.i)) s.son.xs s.son.mine M visited2 first s.some
         (called_removed (son_tree T c.args.node.now (suc c.args.i)) c.tree_of_son-behind.result c.args.pages.now c.args.pages.now M M visited2 levels_behind s.son.xs s.son.mine ws fs None (sought None s.son.xs) r (Some first) s.called refl is removing)
 
     -- the son stayed whole, and the node was settled
@@ -586,7 +586,7 @@ module _ (g : given.Over) (t : ℕ) (c : delete_here-After-delete_below g t) whe
         let T = c.args.tree.now in
         let P = at c.args.pages.now.pages in
         let M = c.args.visited.now.items in
-        let p = son_at c.args.node.now (suc c.args.i) in
+        let p = son_number c.args.node.now (suc c.args.i) in
         let visited2 = c.delete_below.new.visited.items in
         let x = element_at c.args.node.now c.args.i in
         let New = Kin T.order P changed_behind visited2 levels_behind p son in
@@ -606,7 +606,7 @@ pub delete_here-returns-in_err-delete_below-clause-removes : goal.delete_here-re
 delete_here-returns-in_err-delete_below-clause-removes g t c = λ steady least es us below low spells least_is body us_is between apart unvisited.
     let p = err_from_is_err_and c.from_residual-in_err-delete_below.result c.from_residual-in_err-delete_below.ensures.1 in
     let called = (goal.at.delete_here-returns-in_err-delete_below-clause-removes g t c).After-delete_below in
-    rw (p.1, p.2) (refused_behind g t called steady least es us below spells least_is body us_is between apart unvisited (IsOutside c.in_err-delete_below.field-0.0)
+    rw (p.1, p.2) (refused_behind g t called steady least es us below spells least_is body us_is between apart unvisited (IsNotOfPages c.in_err-delete_below.field-0.0)
     (λ steady2 least2 xs vs low2 tree2 between2 apart2 unvisited2. stops_outside (lookup_in (sought None xs) xs) c.in_err-delete_below.field-0.0 (c.in_err-delete_below.ensures.removes steady2 least2 xs vs low2 tree2 between2 apart2 unvisited2)))
 
 -- the next greater element stands in the node, and its son stayed whole
@@ -617,7 +617,7 @@ module _ (g : given.Over) (t : ℕ) (c : delete_here-After-set_element g t) wher
   whole_is : c.tree_of_son-behind.result ≡ son_tree c.args.tree.now c.args.node.now (suc c.args.i)
   whole_is = c.tree_of_son-behind.ensures ∙ ap (son_tree c.args.tree.now c.args.node.now) (omega arith)
 
-  whole_visited : IsVisit c.args.visited.now.items c.delete_below.new.visited.items c.delete_below.new.edit.writes.items c.delete_below.new.edit.freed.items (c.args.tree.now.height - 1) (son_at c.args.node.now (suc c.args.i))
+  whole_visited : IsVisit c.args.visited.now.items c.delete_below.new.visited.items c.delete_below.new.edit.writes.items c.delete_below.new.edit.freed.items (c.args.tree.now.height - 1) (son_number c.args.node.now (suc c.args.i))
   whole_visited = subst (λ (x : Subtree). IsVisit c.args.visited.now.items c.delete_below.new.visited.items c.delete_below.new.edit.writes.items c.delete_below.new.edit.freed.items x.height x.page) whole_is c.in_ok-delete_below.ensures.visits.visit
 
   with_next : MayBeUnderfull c.args.tree.now.order c.args.tree.now.height c.args.tree.now.bounds c.set_element.new.node
@@ -670,7 +670,7 @@ module _ (g : given.Over) (t : ℕ) (c : delete_here-After-set_element-in-Underf
   short_is : c.tree_of_son-behind.result ≡ son_tree c.args.tree.now c.args.node.now (suc c.args.i)
   short_is = c.tree_of_son-behind.ensures ∙ ap (son_tree c.args.tree.now c.args.node.now) (omega arith)
 
-  short_visited : IsVisit c.args.visited.now.items c.delete_below.new.visited.items c.delete_below.new.edit.writes.items c.delete_below.new.edit.freed.items (c.args.tree.now.height - 1) (son_at c.args.node.now (suc c.args.i))
+  short_visited : IsVisit c.args.visited.now.items c.delete_below.new.visited.items c.delete_below.new.edit.writes.items c.delete_below.new.edit.freed.items (c.args.tree.now.height - 1) (son_number c.args.node.now (suc c.args.i))
   short_visited = subst (λ (x : Subtree). IsVisit c.args.visited.now.items c.delete_below.new.visited.items c.delete_below.new.edit.writes.items c.delete_below.new.edit.freed.items x.height x.page) short_is c.in_ok-delete_below.ensures.visits.visit
 
   went_behind : let S = son_tree c.args.tree.now c.args.node.now (suc c.args.i) in WentUp S.order S.height S.bounds None S.page c.delete_below.new.edit.writes.items c.delete_below.new.edit.freed.items (Underfull c.in-Underfull.next c.delete_below.new.node)
@@ -678,10 +678,10 @@ module _ (g : given.Over) (t : ℕ) (c : delete_here-After-set_element-in-Underf
       let is = ap (removal_if c.delete_below.new.node) (c.unwrap.ensures ∙ ap Some c.in-Underfull.is) in
       went_up (son_tree c.args.tree.now c.args.node.now (suc c.args.i)) c.tree_of_son-behind.result None c.delete_below.new.edit.writes.items c.delete_below.new.edit.freed.items (removal_if c.delete_below.new.node c.in_ok-delete_below.field-0) (Underfull c.in-Underfull.next c.delete_below.new.node) short_is is c.in_ok-delete_below.ensures.up
 
-  short_son : son_at c.args.node.now (suc c.args.i) ≡ son_at c.set_element-in-Underfull.new.node (c.args.i + 1)
+  short_son : son_number c.args.node.now (suc c.args.i) ≡ son_number c.set_element-in-Underfull.new.node (c.args.i + 1)
   short_son =
       ap (λ (xs : List ℕ). get_or xs (suc c.args.i) 0) (sym (ap (λ s. s.items) c.set_element-in-Underfull.ensures.sons))
-      ∙ ap (son_at c.set_element-in-Underfull.new.node) (omega arith)
+      ∙ ap (son_number c.set_element-in-Underfull.new.node) (omega arith)
 
 pub delete_here-treat_and_settle-requires-clause-can : goal.delete_here-treat_and_settle-requires-clause-can
 delete_here-treat_and_settle-requires-clause-can g t c =
@@ -696,7 +696,7 @@ delete_here-treat_and_settle-requires-clause-can g t c =
     let visit = short_visited g t p in
     let pages_is = ap (λ (v : PagesView). v.pages) c.delete_below.ensures.reading.unchanged in
     let size = ap length put.ensures.elements ∙ length-set c.args.node.now.elements.items i e in
-    let bounds_is : behind e (son_bounds c.args.node.now.elements.items (suc i) T.bounds) ≡ son_bounds m.elements.items (i + 1) T.bounds =
+    let bounds_is : behind_element e (son_bounds c.args.node.now.elements.items (suc i) T.bounds) ≡ son_bounds m.elements.items (i + 1) T.bounds =
     sym (set_son_bounds c.args.node.now.elements.items i T.bounds e c.requires.element.place) ∙ ap (λ (xs : List Element). son_bounds xs (suc i) T.bounds) (sym put.ensures.elements) ∙ ap (λ (j : ℕ). son_bounds m.elements.items j T.bounds) (sym next_i) in record {
       sons = record {
         order = c.requires.element.tree.order;
@@ -715,7 +715,7 @@ delete_here-treat_and_settle-requires-clause-can g t c =
 pub delete_here-treat_and_settle-requires-clause-other : goal.delete_here-treat_and_settle-requires-clause-other
 delete_here-treat_and_settle-requires-clause-other g t c =
     let p = (goal.at.delete_here-treat_and_settle-requires-clause-other g t c).After-set_element-in-Underfull in
-    λ is. visited_differs c.args.visited.now.items c.args.tree.now.page (son_at c.args.node.now (suc c.args.i)) c.requires.reached.here (short_visited g t p).fresh (is ∙ sym (short_son g t p))
+    λ is. visited_differs c.args.visited.now.items c.args.tree.now.page (son_number c.args.node.now (suc c.args.i)) c.requires.reached.here (short_visited g t p).fresh (is ∙ sym (short_son g t p))
 
 -- the underfull son behind the element is treated
 module _ (g : given.Over) (t : ℕ) (c : delete_here-After-set_element-in-Underfull g t) where
@@ -744,22 +744,22 @@ module _ (g : given.Over) (t : ℕ) (c : delete_here-After-set_element-in-Underf
         let T = c.args.tree.now in
         let P = at c.args.pages.now.pages in
         let fs = c.delete_below.new.edit.freed.items in
-        ask X T.order P (after P c.delete_below.new.edit.writes.items fs) c.delete_below.new.visited.items 0 (length fs) (T.height - 1 - 1) (T.height - 1) T.page (son_at c.args.node.now (suc c.args.i)) c.delete_below.new.node c.set_element-in-Underfull.new.node (set_in (element_at c.args.node.now c.args.i).0 None es) us T.bounds (c.args.i + 1) (sym up)
+        ask X T.order P (after P c.delete_below.new.edit.writes.items fs) c.delete_below.new.visited.items 0 (length fs) (T.height - 1 - 1) (T.height - 1) T.page (son_number c.args.node.now (suc c.args.i)) c.delete_below.new.node c.set_element-in-Underfull.new.node (set_in (element_at c.args.node.now c.args.i).0 None es) us T.bounds (c.args.i + 1) (sym up)
         (omega (arith, size_here, c.requires.element.place)) (omega (arith, size_here, c.requires.element.place)) (short_son g t c) short.between short.broken (right_here (λ _. X) right) (left_here (λ _ _. X) left)
 
     module _ (least : ℕ) (low : least ≤ c.args.tree.now.order) (ws3 : List (ℕ × List ℕ)) (fs3 visited3 : List ℕ) (x : Element) (r : Removal) where
       abbrev SettledHere : ℕ → Node → Node → ℕ → Type 0
       SettledHere j L R q = (visited3 ≡ c.delete_below.new.visited.items ++ q ∷ []) × TreatsAndSettles c.args.tree.now c.set_element-in-Underfull.new.node (brothers j L R) x (so_far c.delete_below.new.edit) (done_so_far ws3 fs3) r
 
-      treat_behind : x ≡ element_at c.args.node.now c.args.i → AsksRightHere (λ o. SettledHere (c.args.i + 1) c.delete_below.new.node o (son_at c.set_element-in-Underfull.new.node (suc (c.args.i + 1))))
-          → AsksLeftHere (λ j o. SettledHere j o c.delete_below.new.node (son_at c.set_element-in-Underfull.new.node j))
+      treat_behind : x ≡ element_at c.args.node.now c.args.i → AsksRightHere (λ o. SettledHere (c.args.i + 1) c.delete_below.new.node o (son_number c.set_element-in-Underfull.new.node (suc (c.args.i + 1))))
+          → AsksLeftHere (λ j o. SettledHere j o c.delete_below.new.node (son_number c.set_element-in-Underfull.new.node j))
           → RemovesBelow (head_of c.args.tree.now least) (pages_freed (at c.args.pages.now.pages) (after (at c.args.pages.now.pages) ws3 fs3) 0 (length fs3)) es us (visits c.args.visited.now.items visited3) (element_at c.args.node.now c.args.i).0 (Some r)
       treat_behind x_is right left =
           let T = c.args.tree.now in
           let P = at c.args.pages.now.pages in
           let M = c.args.visited.now.items in
           let h = T.height - 1 - 1 in
-          let p = son_at c.args.node.now (suc c.args.i) in
+          let p = son_number c.args.node.now (suc c.args.i) in
           let m = c.set_element-in-Underfull.new.node in
           let ws = c.delete_below.new.edit.writes.items in
           let fs = c.delete_below.new.edit.freed.items in
@@ -767,7 +767,7 @@ module _ (g : given.Over) (t : ℕ) (c : delete_here-After-set_element-in-Underf
           let underfull = c.delete_below.new.node in
           let key = (element_at c.args.node.now c.args.i).0 in
           let treated = treat_son T.order T.height P visited2 visited3 0 h (T.height - 1) T.page p underfull m x r ws ws3 fs fs3 (set_in key None es) us T.bounds (c.args.i + 1) c.requires.element.tree.order.0 (sym up) (omega (arith, size_here, c.requires.element.place)) (omega (arith, size_here, c.requires.element.place)) (short_son g t c) short.between
-          (subst (λ (z : ℕ). Untouched ws fs z) (short_son g t c) (went_behind g t c).goes.2) c.in_ok-delete_below.ensures.visits.tidy.unvisited short.broken (right_here (λ o. SettledHere (c.args.i + 1) underfull o (son_at m (suc (c.args.i + 1)))) right) (left_here (λ j o. SettledHere j o underfull (son_at m j)) left) in
+          (subst (λ (z : ℕ). Untouched ws fs z) (short_son g t c) (went_behind g t c).goes.2) c.in_ok-delete_below.ensures.visits.tidy.unvisited short.broken (right_here (λ o. SettledHere (c.args.i + 1) underfull o (son_number m (suc (c.args.i + 1)))) right) (left_here (λ j o. SettledHere j o underfull (son_number m j)) left) in
           let drops = drop_treated T.order P ws ws3 fs fs3 least T.height h T.page p es us T.bounds m underfull x (element_at c.args.node.now c.args.i) r visited2 visited3 key c.requires.element.tree.order.0 low short.broken treated (sym c.requires.element.node.kind ∙ short.inner) x_is refl short.value in
           let unvisited3 = on_unvisited M visited2 visited3 treated.son.t us short.mine short.mine_in (short.broken.loses.left.within treated.son.t (inr treated.son.t_in)) short.unvisited treated.son.visited_is in
           subst (λ (l : ℕ). RemovesBelow (head_page T.order least l T.page) (pages_freed P (after P ws3 fs3) 0 (length fs3)) es us (visits M visited3) key (Some r)) (sym up) (record { drops = drops; unvisited = unvisited3 })
@@ -779,7 +779,7 @@ delete_here-returns-in_err-shrunk-in-Underfull-clause-removes g t c = λ steady 
     let put = c.set_element-in-Underfull in
     let short = short_behind g t at_goal.After-delete_below steady least es us below spells least_is body us_is between apart unvisited put.new.node c.in-Underfull.next c.delete_below.new.node (removal_if c.delete_below.new.node c.in_ok-delete_below.field-0) (ap (removal_if c.delete_below.new.node) (c.unwrap.ensures ∙ ap Some c.in-Underfull.is)) c.in_ok-delete_below.ensures.removes put.ensures.elements (ap (λ s. s.items) put.ensures.sons) in
     let refused = c.in_err-shrunk-in-Underfull in
-    rw (p.1, p.2) (ask_behind g t at_goal.After-set_element-in-Underfull es us steady (two_behind g t at_goal.After-delete_below) short (IsOutside refused.field-0.0) refused.ensures.right refused.ensures.left)
+    rw (p.1, p.2) (ask_behind g t at_goal.After-set_element-in-Underfull es us steady (two_behind g t at_goal.After-delete_below) short (IsNotOfPages refused.field-0.0) refused.ensures.right refused.ensures.left)
 
 pub delete_here-returns-in_ok-shrunk-in-Underfull-clause-removes : goal.delete_here-returns-in_ok-shrunk-in-Underfull-clause-removes
 delete_here-returns-in_ok-shrunk-in-Underfull-clause-removes g t c = λ steady least es us below low spells least_is body us_is between apart unvisited.
@@ -801,7 +801,7 @@ delete_here-returns-in_ok-shrunk-in-Underfull-clause-taken g t c =
     let settled = c.in_ok-shrunk-in-Underfull.ensures.settled in record {
       tidy = λ used. subst (λ (ps : List (Option (List ℕ))). IsTidy ps c.treat_and_settle.new.visited.items c.treat_and_settle.new.edit.writes.items c.treat_and_settle.new.edit.freed.items) pages_is
           (settled.tidy (subst (λ (ps : List (Option (List ℕ))). IsSome (at ps c.args.tree.now.page)) (sym pages_is) used));
-      older = λ q is other. settled.others q (visit.stays q is) (λ same. visited_differs c.args.visited.now.items q (son_at c.args.node.now (suc c.args.i)) is visit.fresh (same ∙ sym (short_son g t p))) other (visit.older q is);
+      older = λ q is other. settled.others q (visit.stays q is) (λ same. visited_differs c.args.visited.now.items q (son_number c.args.node.now (suc c.args.i)) is visit.fresh (same ∙ sym (short_son g t p))) other (visit.older q is);
       stays = λ q is. settled.stays q (visit.stays q is);
       few = omega (arith, visit.few, settled.one_more);
     }

@@ -1,12 +1,11 @@
-use Rattle.std.proofs.Common.{rules, ◌≡◌, ◌-◌, ◌<◌, ℕ, IsTrue, List, [], ◌∷◌, None, Some, is_none, false, refl, sym, ◌∙◌, arith}
+use Rattle.std.proofs.Common.{rules, ◌≡◌, ◌-◌, ◌<◌, ℕ, IsTrue, List, [], ◌∷◌, None, Some, is_none, false, refl, sym, ◌∙◌, subst, arith}
 use Rattle.page_store.specs.PageMap.{at, write_page}
 use Rattle.btree_node.specs.declared.page_change.PageChange.TheVariants.{Remove}
 use Rattle.btree_node.specs.Lists.{Element}
+use Rattle.btree_insert.specs.declared.step.Spot.{Spot}
 use Rattle.btree_insert.specs.Contents.{set_in}
 use Rattle.btree_insert.specs.PageTrees.{Holds, Spells}
-use Rattle.btree_insert.proofs.BoundLemmas.{Between-all}
-use Rattle.btree_insert.proofs.ReachLemmas.{leads_from}
-use Rattle.btree_insert.proofs.HeadNodeLemmas.{root_tree}
+use Rattle.btree_insert.proofs.RootSpotLemmas.{spot_tree, spot_leads}
 use Rattle.btree_insert.proofs.SpeltLemmas.{some_found, found_there, spelt_changed}
 use Rattle.btree_delete.specs.Shrinking.{Drops, Whole}
 use Rattle.btree_delete.specs.Subtrees.{head_page}
@@ -23,8 +22,9 @@ module _ (g : given.Over) (c : After-change g) (steady : IsTrue c.args.pages.now
       let T = c.args.tree.now in
       let P = at c.args.pages.now.pages in
       let height : 0 < T.height = omega (arith, c.if-tree-eq0.false) in
-      c.in-Some.ensures.drops steady 1 es us c.requires.tree.order.0 (root_tree T.order P T.height T.root es us height holds.tree) (Between-all es holds.ascends) holds.apart
-      c.change.ensures.pages.page c.change.ensures.pages.changed
+      let root = spot_tree c.root_spot.result T P es us c.root_spot.ensures height holds in
+      let call = c.in-Some.ensures.drops steady 1 es us c.requires.tree.order.0 root.0 root.1 holds.apart c.change.ensures.pages.page c.change.ensures.pages.changed in
+      subst (λ (s : Spot). Drops (head_page T.order 1 (s.level - 1) s.page) (with_page P c.in-Some.taken.page c.change.ensures.pages.page) es us c.args.key.now (Some (Whole (c.args.key.now, c.in-Some.taken.old)))) c.root_spot.ensures call
 
   shrank : Shrank (at c.args.pages.now.pages) (write_page (at c.args.pages.now.pages) c.in-Some.taken.page c.change.ensures.pages.page) c.args.tree.now c.args.tree.now 0 (set_in c.args.key.now None es) us
   shrank =
@@ -43,7 +43,7 @@ returns-clause-deleted g c = λ steady es us holds.
 pub returns-clause-led : goal.returns-clause-led
 returns-clause-led g c = λ steady.
     let T = c.args.tree.now in
-    leads_from (Spells T.order (at c.args.pages.now.pages)) c.args.key.now T.height (T.height - 1) T.root (Some c.in-Some.taken.old) (omega (arith, c.if-tree-eq0.false)) (c.in-Some.ensures.led steady)
+    spot_leads (Spells T.order (at c.args.pages.now.pages)) c.args.key.now c.root_spot.result T (Some c.in-Some.taken.old) c.root_spot.ensures (omega (arith, c.if-tree-eq0.false)) (c.in-Some.ensures.led steady)
 
 pub returns-clause-spelt : goal.returns-clause-spelt
 returns-clause-spelt g c =

@@ -4,7 +4,7 @@ use Rattle.btree_node.specs.declared.node.Node.{Node}
 use Rattle.btree_insert.specs.Bounds.{AreWithin, son_bounds}
 use Rattle.btree_insert.specs.PageTrees.{Spells, kind_of_level}
 use Rattle.btree_delete.specs.declared.deletion.subtree.Subtree.{Subtree}
-use Rattle.btree_delete.specs.Treatment.{son_at, Treats, brothers}
+use Rattle.btree_delete.specs.Treatment.{son_number, Treats, brothers}
 use Rattle.btree_delete.specs.Shrinking.{MayBeUnderfull}
 use Rattle.btree_delete.specs.Subtrees.{son_tree}
 use Rattle.btree_delete.specs.Tidy.{is_visited, Untouched, so_far}
@@ -69,7 +69,7 @@ returns-then-i-len-clause-treated g c = record {
       let t_is = next_is g (goal.at.returns-then-i-len-clause-treated g c).After-visit in
       let unvisited = subst (λ (x : Subtree). is_visited c.args.visited.now.items x.page ≡ false) t_is c.in_ok-visit.ensures.visited.fresh in
       treats_others q c.args.tree.now.order c.args.i c.args.father.now c.treat_pair.new.father c.args.son c.visit.new.node c.args.edit.now.writes.items c.treat_pair.new.edit.writes.items c.args.edit.now.freed.items c.treat_pair.new.edit.freed.items
-      other (visited_differs c.args.visited.now.items q (son_at c.args.father.now (suc c.args.i)) visited unvisited) c.in_ok-treat_pair.ensures.treats is;
+      other (visited_differs c.args.visited.now.items q (son_number c.args.father.now (suc c.args.i)) visited unvisited) c.in_ok-treat_pair.ensures.treats is;
   stays = λ q is. visit_stays c.args.visited.now.items c.visit.new.visited.items c.tree_of_son-next.result.page q c.in_ok-visit.ensures.visited is;
   one_more = visit_one_more c.args.visited.now.items c.visit.new.visited.items c.tree_of_son-next.result.page c.in_ok-visit.ensures.visited;
 }
@@ -117,7 +117,7 @@ returns-clause-treated g c = record {
   tidy =
       let p = (goal.at.returns-clause-treated g c).After-visit-2 in
       let page_is = ap (λ (x : Subtree). x.page) c.tree_of_son-previous.ensures in
-      let s_is = ap (son_at c.args.father.now) (left_is g p) in
+      let s_is = ap (son_number c.args.father.now) (left_is g p) in
       treat_tidy_left c.args.pages.now.pages c.args.visited.now.items c.visit-2.new.visited.items c.args.tree.now.order (left g p) c.args.father.now c.treat_pair-2.new.father c.visit-2.new.node c.args.son c.args.edit.now.writes.items c.treat_pair-2.new.edit.writes.items c.args.edit.now.freed.items c.treat_pair-2.new.edit.freed.items
       (c.in_ok-visit-2.ensures.visited.added ∙ ap (λ (q : ℕ). c.args.visited.now.items ++ q ∷ []) page_is) (subst (λ (q : ℕ). is_visited c.args.visited.now.items q ≡ false) page_is c.in_ok-visit-2.ensures.visited.fresh)
       (subst (λ (q : ℕ). IsSome (at c.args.pages.now.pages q)) page_is c.in_ok-visit-2.ensures.in_use) (subst (λ (q : ℕ). IsSome (at c.args.pages.now.pages q)) s_is c.requires.in_use)
@@ -126,7 +126,7 @@ returns-clause-treated g c = record {
       let p = (goal.at.returns-clause-treated g c).After-visit-2 in
       let unvisited = subst (λ (x : Subtree). is_visited c.args.visited.now.items x.page ≡ false) c.tree_of_son-previous.ensures c.in_ok-visit-2.ensures.visited.fresh in
       treats_others q c.args.tree.now.order (left g p) c.args.father.now c.treat_pair-2.new.father c.visit-2.new.node c.args.son c.args.edit.now.writes.items c.treat_pair-2.new.edit.writes.items c.args.edit.now.freed.items c.treat_pair-2.new.edit.freed.items
-      (visited_differs c.args.visited.now.items q (son_at c.args.father.now (left g p)) visited unvisited) (λ e. other (e ∙ sym (ap (son_at c.args.father.now) (left_is g p)))) c.in_ok-treat_pair-2.ensures.treats is;
+      (visited_differs c.args.visited.now.items q (son_number c.args.father.now (left g p)) visited unvisited) (λ e. other (e ∙ sym (ap (son_number c.args.father.now) (left_is g p)))) c.in_ok-treat_pair-2.ensures.treats is;
   stays = λ q is. visit_stays c.args.visited.now.items c.visit-2.new.visited.items c.tree_of_son-previous.result.page q c.in_ok-visit-2.ensures.visited is;
   one_more = visit_one_more c.args.visited.now.items c.visit-2.new.visited.items c.tree_of_son-previous.result.page c.in_ok-visit-2.ensures.visited;
 }

@@ -14,11 +14,11 @@ use Rattle.btree_insert.specs.Bounds.{Between}
 use Rattle.btree_insert.proofs.ReachLemmas.{on_ok, rest_within}
 use Rattle.rec_types.specs.Table.{counted}
 use Rattle.page_store.specs.PagesView.{is_in_memory}
-use Rattle.btree_insert.specs.Growth.{IsOutside}
+use Rattle.btree_insert.specs.Growth.{IsNotOfPages}
 use Rattle.btree_insert.specs.PageTrees.{SpellsIn}
 use Rattle.btree_insert.specs.Spelt.{AreSpeltIn}
 use Rattle.btree_delete.proofs.KeptPageLemmas.{kept_more, in_pages, in_store, outside, written_second}
-use Rattle.btree_delete.specs.Survey.{SeenSoFar, unreached, AreKept, stored_page, after, below_page, below_sons, Surveyed, Sound, allowed, node_in, sons_from, elements_from}
+use Rattle.btree_delete.specs.Survey.{SeenSoFar, unreached, AreKept, stored_page, seen_past, below_page, below_sons, Surveyed, Sound, allowed, node_in, sons_from, elements_from}
 use Rattle.btree_delete.proofs.RespellLemmas.{sons_many, Standing, standing, son_first, element_of, element_first, rest_at}
 use Rattle.btree_delete.proofs.SurveyLemmas.{Head, Apiece, with_leaf, leaf_found, inner_found, head, leaf_exact, leaf_after, inner_exact, last_found, last_exact, more_found, more_exact, sons_found, sons_sound, match_ok}
 use Rattle.btree_delete.proofs.opening.survey.+surveying.Given as given
@@ -208,7 +208,7 @@ survey_page-returns-else-above-eq0-clause-exact g t c = λ steady h level es us 
     let place = (goal.at.survey_page-returns-else-above-eq0-clause-exact g t c).In_ok-keep_page in
     let inner : node.kind ≡ Inner = sym (c.kind_in.ensures k node c.requires.order (node_stands g t place) c.in_ok-read_page.ensures.written) ∙ c.in-Inner.is in
     let down = inner_exact layout k pages c.args.least c.args.above.now.left c.args.n c.args.above.now.bounds node c.args.survey.now c.reach.new.self h level es us inner (c.if-not-reach.ensures.reached refl) sound (head_read g t place steady h level es us sound) in
-    match_ok c.survey_sons.result (c.survey_sons.new.survey ≡ after level es down.below c.reach.new.self) (c.survey_sons.new.survey ≡ after level es us c.args.survey.now) IsOutside (down.back c.survey_sons.new.survey)
+    match_ok c.survey_sons.result (c.survey_sons.new.survey ≡ seen_past level es down.below c.reach.new.self) (c.survey_sons.new.survey ≡ seen_past level es us c.args.survey.now) IsNotOfPages (down.back c.survey_sons.new.survey)
     (c.survey_sons.ensures.exact (stays_steady g t place ∙ steady) down.h1 level es down.below
     (sons_sound layout k pages _ node.sons.items node.sons.items node.elements.items node.elements.items (c.args.above.now.left - 1) c.args.above.now.bounds c.reach.new.self down.h1 level es down.below
     (pages_read g t place) refl refl down.sound))
@@ -284,7 +284,7 @@ survey_sons-returns-clause-exact g t c = λ steady h level es us sound.
     let before = allowed c.args.above.now.left (record { low = c.args.above.now.bounds.low; high = Some key }) in
     let one = sons_apart g t p h level es us sound in
     let reached_is = c.in_ok-survey_page.ensures.exact steady h level one.xs one.here (subst (λ q. Sound (below_page layout k pages k q) before c.args.survey.now h level one.xs one.here) (sym (son_is g t places.After-son_in-son)) one.first) in
-    match_ok c.survey_sons.result (c.survey_sons.new.survey ≡ after level one.ys one.rest c.add_key.new.self) (c.survey_sons.new.survey ≡ after level es us c.args.survey.now) IsOutside
+    match_ok c.survey_sons.result (c.survey_sons.new.survey ≡ seen_past level one.ys one.rest c.add_key.new.self) (c.survey_sons.new.survey ≡ seen_past level es us c.args.survey.now) IsNotOfPages
     (λ is. one.back c.survey_page-2.new.survey c.add_key.new.self c.survey_sons.new.survey reached_is c.add_key.ensures is)
     (c.survey_sons.ensures.exact (ap (λ (v : PagesView). v.steady) c.in_ok-survey_page.ensures.surveys.store ∙ steady) h level one.ys one.rest
     (sons_sound layout k pages _ (drop 1 all_sons) _ (drop 1 all_els) _ c.args.above.now.left (behind key c.args.above.now.bounds) c.add_key.new.self h level one.ys one.rest

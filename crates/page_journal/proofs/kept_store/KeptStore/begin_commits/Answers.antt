@@ -1,6 +1,6 @@
 use Rattle.std.proofs.Common.{rules, [], ◌∷◌, ap, sym, ◌∙◌, subst}
 use Rattle.page_journal.specs.KeptStores.{KeptStored, old_file_of}
-use Rattle.page_journal.specs.Crash.{StandsFor}
+use Rattle.page_journal.specs.Crash.{FilesStandFor}
 use Rattle.page_journal.specs.Logging.{SaysNoneOr}
 use Rattle.page_journal.proofs.LoggedLemmas.{begin_all, begin_stops, none_logged, ready_stands, stood}
 use Rattle.page_journal.proofs.kept_store.KeptStore.begin_commits.Goals as goal
@@ -38,7 +38,7 @@ returns-in-Err-clause-stopped g c = λ st unit is spelt f left.
     let d = g.D.DiskState in
     let was = c.self.view_is in
     let steady = ap (λ (s : KeptStored _). d.steady s.disk) was ∙ st in
-    subst (λ (s : KeptStored _). StandsFor (old_file_of d s.disk) f × SaysNoneOr (unit ∷ []) f) was
+    subst (λ (s : KeptStored _). FilesStandFor (old_file_of d s.disk) f × SaysNoneOr (unit ∷ []) f) was
     (begin_stops d (g.met.D.Disk.counts_now) c.self.inside.state c.self.inside.kept.items c.self.inside.log c.self.inside.doubt.items c.self.inside.disk c.begin_log.new.disk unit
     (ap (λ (s : KeptStored _). s.state) was ∙ c.requires.unused.1)
     (ap (λ (s : KeptStored _). s.log) was ∙ c.requires.unused.0)

@@ -1,5 +1,5 @@
 use Rattle.std.proofs.Common.{rules, ◌∙◌, ap, inl, subst, sym, OnOk}
-use Rattle.page_journal.specs.Crash.{IsEither}
+use Rattle.page_journal.specs.Crash.{StandsForEither}
 use Rattle.page_journal.specs.Files.{Files}
 use Rattle.page_journal.specs.LoggedStores.{FindsAll, FindsNow, LeavesWithCommits, commits_in}
 use Rattle.page_journal.specs.KeptStores.{KeptStored, old_file_of}
@@ -14,7 +14,7 @@ returns-clause-any_moment g c = λ st f left.
     let steady = ap (λ (s : KeptStored _). d.steady s.disk) c.self.view_is ∙ st in
     let i = (c.self.invariant.1 steady).0 in
     let was = old_file_of d c.self.inside.disk in
-    subst (λ (s : KeptStored _). IsEither (old_file_of d s.disk) (d.seen s.disk).main f) c.self.view_is
+    subst (λ (s : KeptStored _). StandsForEither (old_file_of d s.disk) (d.seen s.disk).main f) c.self.view_is
     (elim c.match-state.branch [
       | in-Unsealed w ↦ inl (i.time f (subst (λ e. d.left_since e 0 f) w.disk-is left))
       | in-Sealed w ↦ finish_time d was c.self.inside.state c.self.inside.kept.items c.self.inside.disk w.commit-done.new.disk i w.in-Sealed.is w.commit-done.ensures.any_moment f (subst (λ e. d.left_since e 0 f) w.disk-is left)

@@ -1,5 +1,5 @@
 use Rattle.std.proofs.Common.{rules, ◌≡◌, ◌∙◌, ap, sym, subst, OnOk}
-use Rattle.page_journal.specs.Crash.{StandsFor}
+use Rattle.page_journal.specs.Crash.{FilesStandFor}
 use Rattle.page_journal.specs.LoggedStores.{FindsNow, MayFind, commits_in}
 use Rattle.page_journal.specs.KeptStores.{KeptStored, old_file_of}
 use Rattle.page_journal.proofs.KeptStoreLemmas.{never_foreign, unsealed_main, taken_old, taken_time}
@@ -25,7 +25,7 @@ returns-clause-any_moment g c = λ st f left.
     let steady = ap (λ (s : KeptStored _). d.steady s.disk) c.self.view_is ∙ st in
     let i = (c.self.invariant.1 steady).0 in
     let was = old_file_of d c.self.inside.disk in
-    subst (λ (s : KeptStored _). StandsFor (old_file_of d s.disk) f) c.self.view_is
+    subst (λ (s : KeptStored _). FilesStandFor (old_file_of d s.disk) f) c.self.view_is
     (elim c.match-state.branch [
       | in-Sealed w ↦ taken_time d was c.self.inside.state c.self.inside.kept.items c.self.inside.disk w.recover-done.new.disk i w.in-Sealed.is (w.recover-done.ensures.taken_back_at_any_moment steady) f (subst (λ e. d.left_since e 0 f) w.disk-is left)
       | in_default w ↦ i.time f (subst (λ e. d.left_since e 0 f) w.disk-is left)

@@ -11,11 +11,11 @@ use Rattle.page_store.specs.Blank.{blanks}
 use Rattle.page_store.specs.Calls.{counted_times, CountedUpTo, how_many}
 use Rattle.page_store.specs.Growth.{GrowsTo}
 use Rattle.page_store.specs.Overlaid.{slots_of, pages_of}
-use Rattle.page_store.specs.WriteFaults.{by_device, told}
+use Rattle.page_store.specs.WriteFaults.{write_by_device, told}
 use Rattle.page_store.specs.WritingBack.{to_write, in_memory_of, AreStored, KeepsOthers, Stopped}
 use Rattle.page_store.specs.Guards.{Guard, AllowsAll}
 use Rattle.page_store.specs.declared.step.Step.{Step}
-use Rattle.page_store.specs.Journal.{noted, NotesFront, writing_back}
+use Rattle.page_store.specs.Journal.{noted_steps, NotesFront, writing_back}
 use Rattle.page_store.proofs.JournalLemmas.{writing_alike}
 use Rattle.page_store.proofs.InMemoryLemmas.{none_in_memory, many_in_memory, written_in_memory}
 use Rattle.page_store.proofs.NewestPageLemmas.{length-pages_of}
@@ -26,7 +26,7 @@ use Rattle.page_store.proofs.pages.Pages.write_back.Goals.{In-Err, After-clear-a
 
 memory_back : (fault : StoreFault) (answer : WriteFault) → answer ≡ told fault → ◌≡◌ {A = Result (Unit {0}) WriteFault} (Err answer) (Err Memory) → ◌≡◌ {A = Result (Unit {0}) StoreFault} (Err fault) (Err NoMemory)
 memory_back Failed answer is same =
-    absurd (false≢true (sym (ap (λ (r : Result (Unit {0}) WriteFault). by_device r) same) ∙ ap (λ (fault : WriteFault). by_device {X = Unit {0}} (Err fault)) is))
+    absurd (false≢true (sym (ap (λ (r : Result (Unit {0}) WriteFault). write_by_device r) same) ∙ ap (λ (fault : WriteFault). write_by_device {X = Unit {0}} (Err fault)) is))
 memory_back NoMemory answer is same = refl
 
 calls_in : (v : PagesView) (stored : List (List ℕ)) (seen items : List (Option (Box (List ℕ) Global))) (free : List ℕ) (count : ℕ) → seen ≡ items → pages_of stored (slots_of items) free count ≡ v.pages → in_memory_of (slots_of items) free count ≡ v.in_memory → how_many (λ n. is_some (to_write (slots_of seen) free count n)) count ≡ how_many (is_in_memory v) (length v.pages)
@@ -200,8 +200,8 @@ returns-clause-calls g c = record {
   failures = search rules;
   journal =
       let all = steps_in c.args.self.now (g.S.StoreState.pages c.self.inside.store) _ c.self.inside.changed.items c.self.inside.free.keys c.self.inside.count c.args.writing.now c.args.clean.now c.deref.ensures.value (ap (λ (v : PagesView). v.pages) c.self.view_is) (ap (λ (v : PagesView). v.in_memory) c.self.view_is) in
-      c.in_default.ensures.carries.journal ∙ ap (λ old. noted old (writing_back (to_write (slots_of c.deref.result.now) c.self.inside.free.keys c.self.inside.count) c.self.inside.count c.args.writing.now c.args.clean.now)) (ap (λ (v : PagesView). v.journal) c.self.view_is)
-      ∙ ap (noted c.args.self.now.journal) all;
+      c.in_default.ensures.carries.journal ∙ ap (λ old. noted_steps old (writing_back (to_write (slots_of c.deref.result.now) c.self.inside.free.keys c.self.inside.count) c.self.inside.count c.args.writing.now c.args.clean.now)) (ap (λ (v : PagesView). v.journal) c.self.view_is)
+      ∙ ap (noted_steps c.args.self.now.journal) all;
   journal_err = search rules;
   guard =
       let all = steps_in c.args.self.now (g.S.StoreState.pages c.self.inside.store) _ c.self.inside.changed.items c.self.inside.free.keys c.self.inside.count c.args.writing.now c.args.clean.now c.deref.ensures.value (ap (λ (v : PagesView). v.pages) c.self.view_is) (ap (λ (v : PagesView). v.in_memory) c.self.view_is) in

@@ -3,7 +3,7 @@ use Rattle.std.proofs.lemmas.Bool.{false≢true}
 use Rattle.page_store.specs.Opening.{Opening}
 use Rattle.btree_delete.specs.Origins.{origin_of}
 use Rattle.btree_delete.specs.TableView.{TableView}
-use Rattle.command_text.specs.Script.{entries_in, entries_of}
+use Rattle.command_text.specs.Script.{entries_in, commands_of}
 use Rattle.command_text.specs.Units.{Write, unit_commands, unit_lines}
 use Rattle.recfile.specs.LogKeeping.{IsKeptBeside}
 use Rattle.recfile.specs.Run.{AddsWrites}
@@ -22,7 +22,7 @@ kept_beside old new same opened = ap origin_of same ∙ ap (λ (o : Opening). re
 pub returns-in-Ok-keep_commit-clause-answer : goal.returns-in-Ok-keep_commit-clause-answer
 returns-in-Ok-keep_commit-clause-answer g c = (
   λ steady. adds c.args.writes.now c.saturating_add-number.result _ _ (λ none. false≢true (sym c.if-is_empty.false ∙ c.is_empty.ensures ∙ ap (λ (l : List Write). length l == 0) none)) (c.in-Ok-keep_commit.ensures.commits.kept steady (unit_lines c.saturating_add-number.result c.args.writes.now) c.in-Ok.ensures.unit c.in-Ok.ensures.text)
-      (sym (unit_said (unit_lines c.saturating_add-number.result c.args.writes.now) c.in-Ok.ensures.unit) ∙ ap entries_of (sym c.in-Ok.ensures.text) ∙ c.in-Ok.ensures.said),
+      (sym (unit_said (unit_lines c.saturating_add-number.result c.args.writes.now) c.in-Ok.ensures.unit) ∙ ap commands_of (sym c.in-Ok.ensures.text) ∙ c.in-Ok.ensures.said),
   ⊎_elim (λ was. was) (λ now. absurd (cc now.0)) c.in-Ok-keep_commit.ensures.commits.doubted,
 )
 
@@ -36,7 +36,7 @@ pub returns-in-Err-Doubt-clause-answer : goal.returns-in-Err-Doubt-clause-answer
 returns-in-Err-Doubt-clause-answer g c =
     let unit = unit_lines c.saturating_add-number.result c.args.writes.now in (
       λ steady. search rules,
-      ⊎_elim (λ was. inl was) (λ now. inr (c.saturating_add-number.result, now.1 ∙ c.in-Ok.ensures.text, c.in-Ok.ensures.unit, sym (unit_said unit c.in-Ok.ensures.unit) ∙ ap entries_of (sym c.in-Ok.ensures.text) ∙ c.in-Ok.ensures.said)) c.keep_commit.ensures.commits.doubted,
+      ⊎_elim (λ was. inl was) (λ now. inr (c.saturating_add-number.result, now.1 ∙ c.in-Ok.ensures.text, c.in-Ok.ensures.unit, sym (unit_said unit c.in-Ok.ensures.unit) ∙ ap commands_of (sym c.in-Ok.ensures.text) ∙ c.in-Ok.ensures.said)) c.keep_commit.ensures.commits.doubted,
     )
 
 pub returns-in-Err-Doubt-clause-moves : goal.returns-in-Err-Doubt-clause-moves

@@ -8,7 +8,7 @@ use Rattle.rec_types.specs.LimitBounds.{most_log_records}
 use Rattle.tx_log.proofs.LogIndex.{reverse-push}
 use Rattle.tx_log.proofs.MarkLemmas.{marked_more}
 use Rattle.tx_log.proofs.HoldCalls.{IsRoom, room_placed, room_held, IsFree, free_key, accepted_keys, will_be, will_be_told}
-use Rattle.tx_log.specs.Holdings.{held, IsHeld}
+use Rattle.tx_log.specs.Holdings.{holdings_in, IsHeld}
 use Rattle.tx_log.specs.OpenTxs.{opens}
 use Rattle.tx_log.specs.declared.holding.Holding.{Holding}
 use Rattle.tx_log.proofs.KeptLogLemmas.{IsSized, active_open, active_calm, sized, counted_key, held_of_free, some_of, state_use, recounted}
@@ -241,11 +241,11 @@ invariant_of-self c =
     let longer : length c.push_change.new.self.items ≡ length l.records.items + 1 = ap length (pushed c) ∙ length-append l.records.items (record_pushed c ∷ []) in
     let wider : l.records.room ≤ c.push_change.new.self.room = c.push_change.ensures.room in
     let wanted = c.requires.fits in
-    let keys = accepted_keys (record_pushed c) l c.self.invariant c.args.tx c.args.key.now e (entry_made c) c.unwrap-place.result now.room now.free (finding (table_made c)) (held c.raise-out.new.holdings) (c.len.result + 1) e.last c.args.before.now (wrote c.args.after) c.raise-out.result.1 (told c) now.found (puts_entry c) (will_is c now) (c.raise-out.ensures c.args.key.now now.room.stands).2 in
+    let keys = accepted_keys (record_pushed c) l c.self.invariant c.args.tx c.args.key.now e (entry_made c) c.unwrap-place.result now.room now.free (finding (table_made c)) (holdings_in c.raise-out.new.holdings) (c.len.result + 1) e.last c.args.before.now (wrote c.args.after) c.raise-out.result.1 (told c) now.found (puts_entry c) (will_is c now) (c.raise-out.ensures c.args.key.now now.room.stands).2 in
     record {
       log_kept = kept_turned _ _ _ _ _ _ turned kept;
       marked = marked_more l.records.items c.push_change.new.self.items l.records.marks c.push_change.new.self.marks _ _ turned (mark_pushed c) (new_marked c now (was_is places.After-raise-out now)) c.self.invariant.marked;
-      holding = subst (λ (xs : List LogRecord). IsHeld xs (opens (finding (table_made c))) (held c.raise-out.new.holdings)) (sym turned) keys.holding;
+      holding = subst (λ (xs : List LogRecord). IsHeld xs (opens (finding (table_made c))) (holdings_in c.raise-out.new.holdings)) (sym turned) keys.holding;
       busy_keys = keys.busy_keys;
       reserved = tt;
       bounded = record {

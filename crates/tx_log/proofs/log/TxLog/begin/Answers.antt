@@ -3,7 +3,7 @@ use Rattle.std.proofs.lemmas.Grind.{common_steps}
 use Rattle.std.specs.FinMap as maps
 use Rattle.tx_log.proofs.EndLemmas.{fresh_entry, known_last, begun_kept, begun_state}
 use Rattle.tx_log.proofs.HoldSteps.{held_more}
-use Rattle.tx_log.specs.Holdings.{held}
+use Rattle.tx_log.specs.Holdings.{holdings_in}
 use Rattle.tx_log.proofs.KeptLogLemmas.{kept_now}
 use Rattle.tx_log.specs.Finds.{finding, PutsAt}
 use Rattle.tx_log.specs.LogFields.{room_in}
@@ -24,7 +24,7 @@ invariant_of-self-2 c =
     record {
       log_kept = begun_kept (reverse l.records.items) (finding l.txs.entries) (finding c.insert.new.self.entries) l.begun l.pending l.gone c.self.invariant.log_kept (puts_of (goal.at.invariant_of-self-2 c).In_ok-insert);
       marked = c.self.invariant.marked;
-      holding = held_more (reverse l.records.items) (finding l.txs.entries) (finding c.insert.new.self.entries) (held l.holdings) l.begun fresh_entry c.self.invariant.log_kept.fit (puts_of (goal.at.invariant_of-self-2 c).In_ok-insert) (known_last (reverse l.records.items) l.begun (l.begun + 1) (omega arith) c.self.invariant.log_kept.known).1 c.self.invariant.holding;
+      holding = held_more (reverse l.records.items) (finding l.txs.entries) (finding c.insert.new.self.entries) (holdings_in l.holdings) l.begun fresh_entry c.self.invariant.log_kept.fit (puts_of (goal.at.invariant_of-self-2 c).In_ok-insert) (known_last (reverse l.records.items) l.begun (l.begun + 1) (omega arith) c.self.invariant.log_kept.known).1 c.self.invariant.holding;
       busy_keys = c.self.invariant.busy_keys;
       reserved = tt;
       bounded = record {

@@ -6,7 +6,7 @@ use Rattle.std.proofs.lemmas.List.{length-reverse}
 use Rattle.tx_log.proofs.HoldingLemmas.{Freed}
 use Rattle.tx_log.proofs.HoldSteps.{held_after, busy_after}
 use Rattle.tx_log.proofs.OpenTxReadLemmas.{entry_chain}
-use Rattle.tx_log.specs.Holdings.{held}
+use Rattle.tx_log.specs.Holdings.{holdings_in}
 use Rattle.tx_log.specs.Walks.{is_at}
 use Rattle.tx_log.specs.declared.log_record.LogRecord.{LogRecord}
 use Rattle.tx_log.proofs.KeptLogLemmas.{open_of_tx, sized, kept_now}
@@ -42,16 +42,16 @@ overflow_sub-self-2 c =
 
 -- what is left of the keys: none where no other transaction is open, and else those of the others
 module _ (c : goal.After-self-3-1) where
-  none : c.is_empty-is_last.result ≡ true → (q : List ℕ) → held c.free_held.new.holdings q ≡ None
+  none : c.is_empty-is_last.result ≡ true → (q : List ℕ) → holdings_in c.free_held.new.holdings q ≡ None
   none = c.free_held.ensures.last
 
-  freed : c.is_empty-is_last.result ≡ false → Freed (held c.self.inside.holdings) (held c.free_held.new.holdings) (stack c.args.tx.0 (reverse c.self.inside.records.items))
+  freed : c.is_empty-is_last.result ≡ false → Freed (holdings_in c.self.inside.holdings) (holdings_in c.free_held.new.holdings) (stack c.args.tx.0 (reverse c.self.inside.records.items))
   freed others =
       let l = c.self.inside in
       let t = c.args.tx.0 in
       let out = c.take_out-closed.ensures t c.place_of-at.ensures.stands in
       λ q. c.free_held.ensures.others others q
-      ∙ ap (λ (us : List LogRecord). cond (list_any (is_at q) us) None (held l.holdings q)) (entry_chain (reverse l.records.items) l.txs.entries l.begun l.pending l.gone t c.take_out-closed.result c.self.invariant.log_kept out.0)
+      ∙ ap (λ (us : List LogRecord). cond (list_any (is_at q) us) None (holdings_in l.holdings q)) (entry_chain (reverse l.records.items) l.txs.entries l.begun l.pending l.gone t c.take_out-closed.result c.self.invariant.log_kept out.0)
 
   closed_all : c.is_empty-is_last.result ≡ true → (u : ℕ) → opens (finding c.take_out-closed.new.txs.entries) u ≡ false
   closed_all last u = ap (λ es. opens (finding es) u) (no_entries c.take_out-closed.new.txs.entries (c.is_empty-is_last.ensures.0 last))
@@ -79,8 +79,8 @@ invariant_of-self c =
     record {
       log_kept = closed (reverse l.records.items) (finding l.txs.entries) (finding c.take_out-closed.new.txs.entries) l.begun l.pending l.gone t e c.self.invariant.log_kept out.0 out.1;
       marked = c.self.invariant.marked;
-      holding = held_after c.is_empty-is_last.result rs (finding l.txs.entries) (finding c.take_out-closed.new.txs.entries) (held l.holdings) (held c.free_held.new.holdings) t e out.1 out.0 (closed_all c) (none c) (freed c) c.self.invariant.holding;
-      busy_keys = busy_after c.is_empty-is_last.result (held l.holdings) (held c.free_held.new.holdings) (stack t rs) l.over (none c) (freed c) c.self.invariant.busy_keys;
+      holding = held_after c.is_empty-is_last.result rs (finding l.txs.entries) (finding c.take_out-closed.new.txs.entries) (holdings_in l.holdings) (holdings_in c.free_held.new.holdings) t e out.1 out.0 (closed_all c) (none c) (freed c) c.self.invariant.holding;
+      busy_keys = busy_after c.is_empty-is_last.result (holdings_in l.holdings) (holdings_in c.free_held.new.holdings) (stack t rs) l.over (none c) (freed c) c.self.invariant.busy_keys;
       reserved = tt;
       bounded = record {
         fits = omega (arith, bounded.fits);

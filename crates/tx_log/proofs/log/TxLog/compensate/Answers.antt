@@ -4,7 +4,7 @@ use Rattle.rec_types.specs.History.{log_len}
 use Rattle.rec_types.specs.Kept.{undone}
 use Rattle.rec_types.specs.declared.transaction.TxId.{TxId}
 use Rattle.tx_log.proofs.HoldCalls.{IsKeyOf, key_of_change, compensated_keys}
-use Rattle.tx_log.specs.Holdings.{held, IsHeld}
+use Rattle.tx_log.specs.Holdings.{holdings_in, IsHeld}
 use Rattle.tx_log.specs.Marks.{first_lsn, IsMarked}
 use Rattle.tx_log.specs.OpenTxs.{opens}
 use Rattle.tx_log.specs.declared.holding.Holding.{Holding}
@@ -19,7 +19,7 @@ use Rattle.tx_log.proofs.LogStepLemmas.{compensated, IsCompensated, IsBackOf, ba
 use Rattle.tx_log.proofs.LogStateLemmas.{state, compensate_state, told_compensation, kept_turned}
 use Rattle.tx_log.proofs.WalkSteps.{IsStep, walk_step}
 use Rattle.tx_log.specs.Finds.{finding, PutsAt}
-use Rattle.tx_log.specs.Log.{back_record, record_at, lsn_of, key_of, leads_to, led, kept_of, chain}
+use Rattle.tx_log.specs.Log.{back_record, record_at, lsn_of, key_of_record, leads_to, led, kept_of, chain}
 use Rattle.tx_log.specs.LogFields.{room_in}
 use Rattle.tx_log.specs.LogState.{LogState, history_in, undo_in, compensations_in}
 use Rattle.tx_log.specs.Walks.{absent_at}
@@ -222,7 +222,7 @@ module _ (c : goal.After-self-4-1) where
       let l = c.self.inside in
       let rs = reverse l.records.items in
       let lsn_is : lsn_of step.update ≡ c.unwrap-change.result.lsn = ap (λ (x : LiveChange). x.lsn) step.told in
-      let key_is : key_of step.update ≡ c.unwrap-change.result.key = ap (λ (x : LiveChange). x.key) step.told in
+      let key_is : key_of_record step.update ≡ c.unwrap-change.result.key = ap (λ (x : LiveChange). x.key) step.told in
       c.is_absent_below-will.ensures rs step.rest c.index.result.now.last step.update c.self.invariant.log_kept.numbered c.self.invariant.marked step.is lsn_is
       ∙ ap (λ k. absent_at k step.rest) key_is
 
@@ -281,11 +281,11 @@ invariant_of-self c =
     let one = back.pending_one in
     let will = will_is c now.step in
     let below : c.newest_number-below.result ≡ first_lsn (chain rs change.prev) = c.newest_number-below.ensures rs c.self.invariant.log_kept.numbered c.self.invariant.marked in
-    let keys = compensated_keys (record_pushed c) l c.self.invariant c.args.tx e (entry_left c) change now.step.update now.step.rest now.at (finding (table_left c)) (held c.lower-was.new.holdings) c.is_absent_below-will.result (told_back c).down (told_back c).tx_is now.found (puts_entry c) will (c.lower-was.ensures now.at.hold.hold now.at.there).1 in
+    let keys = compensated_keys (record_pushed c) l c.self.invariant c.args.tx e (entry_left c) change now.step.update now.step.rest now.at (finding (table_left c)) (holdings_in c.lower-was.new.holdings) c.is_absent_below-will.result (told_back c).down (told_back c).tx_is now.found (puts_entry c) will (c.lower-was.ensures now.at.hold.hold now.at.there).1 in
     record {
       log_kept = kept_turned _ _ _ _ _ _ turned kept;
       marked = marked_more l.records.items c.push_back.new.self.items l.records.marks c.push_back.new.self.marks _ _ turned c.push_back.ensures.marks (back_marked c now.step below will) c.self.invariant.marked;
-      holding = subst (λ (xs : List LogRecord). IsHeld xs (opens (finding (table_left c))) (held c.lower-was.new.holdings)) (sym turned) keys.holding;
+      holding = subst (λ (xs : List LogRecord). IsHeld xs (opens (finding (table_left c))) (holdings_in c.lower-was.new.holdings)) (sym turned) keys.holding;
       busy_keys = keys.busy_keys;
       reserved = tt;
       bounded = record {

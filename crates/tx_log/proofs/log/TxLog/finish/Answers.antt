@@ -7,7 +7,7 @@ use Rattle.tx_log.proofs.StageLemmas.{IsMove, moved_log, moved_view}
 use Rattle.tx_log.proofs.OpenTxLemmas.{found_fits}
 use Rattle.tx_log.proofs.PlaceOf.{read_at}
 use Rattle.tx_log.specs.Finds.{finding}
-use Rattle.tx_log.specs.LogFields.{state_of}
+use Rattle.tx_log.specs.LogFields.{log_state_of}
 use Rattle.tx_log.specs.Log.{kept_of}
 use Rattle.tx_log.specs.LogState.{LogState, IsRolling, with_txs, open_in, phase_in, tx_in, history_in, active_with, finished}
 use Rattle.tx_log.specs.Transactions.{left_in}
@@ -65,7 +65,7 @@ returns-clause-after c =
     let rolling = subst (λ (s : LogState). IsRolling (phase_in s t)) (sym c.self.view_is) c.requires.rolling in
     let goes = sym c.is_ending.ensures ∙ c.if-is_ending.false in
     moved_view l t c.place_of-at.result e (active_again e) None e.left e.saves.items (λ s ps. active_with ps) found c.place_of-at.ensures.stands refl refl _ refl
-    ∙ ap (with_txs (state_of l)) (sym (finished_goes (kept_of (reverse l.records.items)) l.txs.entries t d read rolling goes))
+    ∙ ap (with_txs (log_state_of l)) (sym (finished_goes (kept_of (reverse l.records.items)) l.txs.entries t d read rolling goes))
     ∙ ap (λ (s : LogState). with_txs s (finished s.txs t (tx_in s t))) c.self.view_is
 
 pub returns-clause-kept : goal.returns-clause-kept

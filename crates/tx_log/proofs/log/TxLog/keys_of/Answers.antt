@@ -8,8 +8,8 @@ use Rattle.tx_log.proofs.LogStepLemmas.{chain_of}
 use Rattle.tx_log.proofs.OpenTxLemmas.{found_fits}
 use Rattle.tx_log.proofs.OwnedKeys.{owned_keys, unowned_keys}
 use Rattle.tx_log.specs.Finds.{finding}
-use Rattle.tx_log.specs.Holdings.{held, AreHeld}
-use Rattle.tx_log.specs.Log.{kept_of, key_of}
+use Rattle.tx_log.specs.Holdings.{holdings_in, AreHeld}
+use Rattle.tx_log.specs.Log.{kept_of, key_of_record}
 use Rattle.tx_log.specs.OpenTxs.{opens}
 use Rattle.tx_log.specs.LogState.{LogState, open_in, history_in}
 use Rattle.tx_log.specs.Owners.{keys_owned}
@@ -44,7 +44,7 @@ held_keys-requires-clause-told c =
     let kept = c.self.invariant.log_kept in
     let found = sym c.in-Some.ensures in
     let there = chain_of rs t e.last kept.numbered kept.written ((found_fits rs l.begun t (finding l.txs.entries) e kept.fit found).last) in
-    subst (λ us. AreHeld (held l.holdings) t (map key_of us)) (sym there) (changed_are_held rs (opens (finding l.txs.entries)) (held l.holdings) t c.self.invariant.holding (ap is_some found))
+    subst (λ us. AreHeld (holdings_in l.holdings) t (map key_of_record us)) (sym there) (changed_are_held rs (opens (finding l.txs.entries)) (holdings_in l.holdings) t c.self.invariant.holding (ap is_some found))
 
 pub held_keys-requires-clause-live : goal.held_keys-requires-clause-live
 held_keys-requires-clause-live c =
@@ -66,5 +66,5 @@ returns c =
     let l = c.self.inside in
     let t = c.args.tx.0 in
     let e = c.in-Some.open_tx.now in
-    owned_keys (reverse l.records.items) l.txs.entries (held l.holdings) t e c.in_ok-held.held.items c.in_ok-keys.keys.items c.dedup.new.self.items c.self.invariant.holding (sym c.in-Some.ensures) c.in_ok-held.ensures.held (subst (λ ks. IsPermutation ks c.in_ok-keys.keys.items) c.deref.ensures.value c.in_ok-keys.ensures.permutation) c.in_ok-keys.ensures.sorted (dedup_is _ _ _ c.dedup.ensures.filtered)
+    owned_keys (reverse l.records.items) l.txs.entries (holdings_in l.holdings) t e c.in_ok-held.held.items c.in_ok-keys.keys.items c.dedup.new.self.items c.self.invariant.holding (sym c.in-Some.ensures) c.in_ok-held.ensures.held (subst (λ ks. IsPermutation ks c.in_ok-keys.keys.items) c.deref.ensures.value c.in_ok-keys.ensures.permutation) c.in_ok-keys.ensures.sorted (dedup_is _ _ _ c.dedup.ensures.filtered)
     ∙ ap (λ (s : LogState). keys_owned (open_in s) (history_in s) t) c.self.view_is

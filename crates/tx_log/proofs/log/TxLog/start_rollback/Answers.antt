@@ -7,7 +7,7 @@ use Rattle.tx_log.proofs.OpenTxReadLemmas.{depth_is, entry_chain}
 use Rattle.tx_log.specs.Finds.{finding}
 use Rattle.tx_log.specs.Log.{kept_of, stack}
 use Rattle.tx_log.specs.LogState.{LogState, tx_in, rolling_to}
-use Rattle.tx_log.specs.Transactions.{depth_of, place_in}
+use Rattle.tx_log.specs.Transactions.{depth_of, place_of_savepoint}
 use Rattle.std.specs.List.{filter}
 use Rattle.std.proofs.lemmas.List.{length-reverse}
 use Rattle.tx_log.specs.Walks.{is_after}
@@ -52,14 +52,14 @@ module _ (c : goal.After-self-2-1) where
   entry : finding c.self.inside.txs.entries c.args.tx.0 ≡ Some c.index_mut-open_tx.result.now
   entry = read_at c.self.inside.txs c.args.tx.0 c.place_of-at.result c.index_mut-open_tx.result.now c.place_of-at.ensures.stands c.index_mut-open_tx.ensures.value
 
-  to_is : c.save_at-to.result ≡ place_in c.index_mut-open_tx.result.now.saves.items c.args.n
+  to_is : c.save_at-to.result ≡ place_of_savepoint c.index_mut-open_tx.result.now.saves.items c.args.n
   to_is =
       let l = c.self.inside in
       let t = c.args.tx.0 in
       let e = c.index_mut-open_tx.result.now in
       let d = c.index.result.now in
       let other = read_at l.txs t c.place_of-at.result d c.place_of-at.ensures.stands c.index.ensures in
-      c.save_at-to.ensures ∙ ap (λ (x : OpenTx). place_in x.saves.items c.args.n) (some_of d e (sym other ∙ entry))
+      c.save_at-to.ensures ∙ ap (λ (x : OpenTx). place_of_savepoint x.saves.items c.args.n) (some_of d e (sym other ∙ entry))
 
   left_is : c.count_changes-left.result ≡ length (filter (is_after c.save_at-to.result) (stack c.args.tx.0 (reverse c.self.inside.records.items)))
   left_is =

@@ -1,8 +1,8 @@
 use Rattle.std.proofs.Common.{◌≡◌, ℕ, ◌+◌, List, [], ◌∷◌, ◌++◌, cond, length, map, Some, None, option_map, unwrap_or, slice_get, vec_len, Bool, refl, sym, ap, subst, ◌∙◌, arith}
 use Rattle.std.proofs.lemmas.List.{map-append, length-map}
 use Rattle.std.proofs.lemmas.Option.{slice_get-map, slice_get_read}
-use Rattle.tx_log.specs.Compact.{RecordsView, read, IsWithin, before_in, after_in, mark_in, told_as, record_in}
-use Rattle.tx_log.specs.Log.{back_record, back_in, key_of, prev_of}
+use Rattle.tx_log.specs.Compact.{RecordsView, read, LiesIn, before_in, after_in, mark_in, told_as, record_of_entry}
+use Rattle.tx_log.specs.Log.{back_record, back_in, key_of_record, prev_of}
 use Rattle.tx_log.specs.declared.log_record.LogRecord.{LogRecord}
 use Rattle.tx_log.specs.declared.records.Kind.{Kind}
 use Rattle.tx_log.specs.declared.records.Entry.{Entry}
@@ -15,7 +15,7 @@ module _ (c : goal.After-push) where
   taken = c.index-taken.result.now
 
   abbrev told : Entry → LogRecord
-  told = record_in c.self.inside.bytes.items
+  told = record_of_entry c.self.inside.bytes.items
 
   abbrev pushed : Entry
   pushed = record { kind = c.back.result; absent = c.args.mark.absent; before_len = taken.before_len; after_len = 255; before_at = taken.before_at; rest = taken.prev; lsn = c.len.result + 1; prev = c.args.prev; tx = c.args.tx; newest = c.args.mark.newest; key = taken.key }
@@ -40,9 +40,9 @@ pub invariant_of-self : goal.invariant_of-self
 invariant_of-self c =
     let l = c.self.inside in
     record {
-      before = subst (λ (es : List Entry). (i : ℕ) (e : Entry) → slice_get es i ≡ Some e → IsWithin (vec_len l.bytes) (before_in e)) (sym (entries_are c))
+      before = subst (λ (es : List Entry). (i : ℕ) (e : Entry) → slice_get es i ≡ Some e → LiesIn (vec_len l.bytes) (before_in e)) (sym (entries_are c))
           (within-push (vec_len l.bytes) before_in l.entries.items (pushed c) c.self.invariant.before (c.self.invariant.before c.args.of (taken c) (there c)));
-      after = subst (λ (es : List Entry). (i : ℕ) (e : Entry) → slice_get es i ≡ Some e → IsWithin (vec_len l.bytes) (after_in e)) (sym (entries_are c))
+      after = subst (λ (es : List Entry). (i : ℕ) (e : Entry) → slice_get es i ≡ Some e → LiesIn (vec_len l.bytes) (after_in e)) (sym (entries_are c))
           (within-push (vec_len l.bytes) after_in l.entries.items (pushed c) c.self.invariant.after (record { fits = λ short. absurd (omega arith) }));
       few = omega (arith, c.self.invariant.few, c.push.ensures.lower_bound);
     }
@@ -56,8 +56,8 @@ returns-clause-items c = λ u found.
     let lsn = c.len.result + 1 in
     let back = ap (λ (k : Kind). told_as k lsn c.args.prev c.args.tx t.key (read l.bytes.items (before_in t)) None t.prev) c.back.ensures
     ∙ back-told t.kind lsn c.args.prev c.args.tx t.lsn t.prev t.tx t.key (read l.bytes.items (before_in t)) (read l.bytes.items (after_in t)) None t.rest
-    ∙ (let u = told c t in ap (λ n. back_record (n + 1) c.args.prev c.args.tx (key_of u) (back_in u) (prev_of u)) (length_is c)) in
-    subst (λ (v : LogRecord). map (told c) c.push.new.self.items ≡ c.args.self.now.items ++ back_record (length c.args.self.now.items + 1) c.args.prev c.args.tx (key_of v) (back_in v) (prev_of v) ∷ []) is
+    ∙ (let u = told c t in ap (λ n. back_record (n + 1) c.args.prev c.args.tx (key_of_record u) (back_in u) (prev_of u)) (length_is c)) in
+    subst (λ (v : LogRecord). map (told c) c.push.new.self.items ≡ c.args.self.now.items ++ back_record (length c.args.self.now.items + 1) c.args.prev c.args.tx (key_of_record v) (back_in v) (prev_of v) ∷ []) is
     (ap (map (told c)) (entries_are c) ∙ map-append (told c) l.entries.items (pushed c ∷ []) ∙ (λ i. items i ++ back i ∷ []))
 
 pub returns-clause-marks : goal.returns-clause-marks

@@ -1,6 +1,6 @@
 use Rattle.std.proofs.Common.{◌≡◌, ℕ, ◌+◌, ◌≤◌, List, [], ◌∷◌, ◌++◌, cond, length, map, option_map, Some, slice_get, vec_len, Bool, sym, ap, subst, ◌∙◌, arith}
 use Rattle.std.proofs.lemmas.List.{map-append, length-map, length-append, append_assoc}
-use Rattle.tx_log.specs.Compact.{RecordsView, read, IsWithin, before_in, after_in, mark_in, told_as, record_in}
+use Rattle.tx_log.specs.Compact.{RecordsView, read, LiesIn, before_in, after_in, mark_in, told_as, record_of_entry}
 use Rattle.tx_log.specs.Log.{change_record}
 use Rattle.tx_log.specs.declared.records.Span.{Span}
 use Rattle.tx_log.specs.declared.records.Entry.{Entry}
@@ -28,7 +28,7 @@ module _ (c : goal.After-push) where
   pushed = record { kind = c.note_written-kind.result.0; absent = c.args.absent; before_len = c.note-before.result.len; after_len = c.note_written-kind.result.1.len; before_at = c.note-before.result.at; rest = c.note_written-kind.result.1.at; lsn = c.len.result + 1; prev = c.args.prev; tx = c.args.tx; newest = c.len.result + 1; key = c.args.key.now }
 
   many : length c.args.self.now.items ≡ vec_len c.self.inside.entries
-  many = omega (arith, ap (λ (v : RecordsView). length v.items) c.self.view_is, length-map c.self.inside.entries.items (record_in first), c.self.inside.entries.ok.0)
+  many = omega (arith, ap (λ (v : RecordsView). length v.items) c.self.view_is, length-map c.self.inside.entries.items (record_of_entry first), c.self.inside.entries.ok.0)
 
   length_is : c.len.result ≡ length c.args.self.now.items
   length_is = c.len.ensures ∙ sym many
@@ -43,11 +43,11 @@ module _ (c : goal.After-push) where
   longer : length c.note_written-kind.new.bytes.items ≡ length first + length more + length second
   longer = ap length (last_is ∙ ap (λ xs. xs ++ second) mid_is) ∙ length-append (first ++ more) second ∙ ap (λ n. n + length second) (length-append first more)
 
-  within : (span : Entry → Span) → ((i : ℕ) (e : Entry) → slice_get c.self.inside.entries.items i ≡ Some e → IsWithin (vec_len c.self.inside.bytes) (span e)) → IsWithin (vec_len c.note_written-kind.new.bytes) (span pushed)
-      → (i : ℕ) (e : Entry) → slice_get c.push.new.self.items i ≡ Some e → IsWithin (vec_len c.note_written-kind.new.bytes) (span e)
+  within : (span : Entry → Span) → ((i : ℕ) (e : Entry) → slice_get c.self.inside.entries.items i ≡ Some e → LiesIn (vec_len c.self.inside.bytes) (span e)) → LiesIn (vec_len c.note_written-kind.new.bytes) (span pushed)
+      → (i : ℕ) (e : Entry) → slice_get c.push.new.self.items i ≡ Some e → LiesIn (vec_len c.note_written-kind.new.bytes) (span e)
   within span each last =
       let grown : vec_len c.self.inside.bytes ≤ vec_len c.note_written-kind.new.bytes = omega (arith, longer, c.self.inside.bytes.ok.0, c.note_written-kind.new.bytes.ok.0) in
-      subst (λ (es : List Entry). (i : ℕ) (e : Entry) → slice_get es i ≡ Some e → IsWithin (vec_len c.note_written-kind.new.bytes) (span e)) (sym entries_are)
+      subst (λ (es : List Entry). (i : ℕ) (e : Entry) → slice_get es i ≡ Some e → LiesIn (vec_len c.note_written-kind.new.bytes) (span e)) (sym entries_are)
       (within-push (vec_len c.note_written-kind.new.bytes) span c.self.inside.entries.items pushed (λ i e is. within-more (vec_len c.self.inside.bytes) (vec_len c.note_written-kind.new.bytes) (span e) grown (each i e is)) last)
 
 pub invariant_of-self : goal.invariant_of-self
@@ -70,12 +70,12 @@ returns-clause-items c =
     let rest = more c ++ second c in
     let all_is : all ≡ xs ++ rest = last_is c ∙ ap (λ ys. ys ++ second c) (mid_is c) ∙ append_assoc xs (more c) (second c) in
     let few : length xs ≡ vec_len l.bytes = omega (arith, l.bytes.ok.0) in
-    let stay = ap (λ ys. map (record_in ys) l.entries.items) all_is ∙ records-more xs rest l.entries.items (subst (λ n. (i : ℕ) (e : Entry) → slice_get l.entries.items i ≡ Some e → IsWithin n (before_in e)) (sym few) c.self.invariant.before) (subst (λ n. (i : ℕ) (e : Entry) → slice_get l.entries.items i ≡ Some e → IsWithin n (after_in e)) (sym few) c.self.invariant.after) ∙ ap (λ (v : RecordsView). v.items) c.self.view_is in
+    let stay = ap (λ ys. map (record_of_entry ys) l.entries.items) all_is ∙ records-more xs rest l.entries.items (subst (λ n. (i : ℕ) (e : Entry) → slice_get l.entries.items i ≡ Some e → LiesIn n (before_in e)) (sym few) c.self.invariant.before) (subst (λ n. (i : ℕ) (e : Entry) → slice_get l.entries.items i ≡ Some e → LiesIn n (after_in e)) (sym few) c.self.invariant.after) ∙ ap (λ (v : RecordsView). v.items) c.self.view_is in
     let before_read = ap (λ ys. read ys c.note-before.result) (last_is c) ∙ read-more c.note-before.new.bytes.items (second c) c.note-before.result c.note-before.ensures.within ∙ c.note-before.ensures.read in
     let lsn = c.len.result + 1 in
     let told = ap (λ o. told_as c.note_written-kind.result.0 lsn c.args.prev c.args.tx c.args.key.now o (read all c.note_written-kind.result.1) c.note_written-kind.result.1.at) before_read ∙ c.note_written-kind.ensures.told lsn c.args.prev c.note_written-kind.result.1.at c.args.tx c.args.key.now c.args.before.now
     ∙ ap (λ n. change_record (n + 1) c.args.prev c.args.tx c.args.key.now c.args.before.now (option_map (λ w. w.now) c.args.after)) (length_is c) in
-    ap (map (record_in all)) (entries_are c) ∙ map-append (record_in all) l.entries.items (pushed c ∷ []) ∙ (λ i. stay i ++ told i ∷ [])
+    ap (map (record_of_entry all)) (entries_are c) ∙ map-append (record_of_entry all) l.entries.items (pushed c ∷ []) ∙ (λ i. stay i ++ told i ∷ [])
 
 pub returns-clause-marks : goal.returns-clause-marks
 returns-clause-marks c =

@@ -1,7 +1,7 @@
 use Rattle.std.proofs.Common.{rules, ◌≡◌, List, ℕ, Err, length, true, false, Some, ap, sym, ◌∙◌, refl, subst, arith}
 use Rattle.std.proofs.lemmas.Bool.{false≢true}
 use Rattle.page_store.specs.Guards.{AllowsAll}
-use Rattle.page_store.specs.Journal.{noted, NotesFront, writing_back}
+use Rattle.page_store.specs.Journal.{noted_steps, NotesFront, writing_back}
 use Rattle.page_store.specs.PagesView.{memory_pages}
 use Rattle.page_store.specs.declared.step.Step.{Step}
 use Rattle.btree_delete.specs.Closing.{closing, StopsAnywhere}
@@ -57,7 +57,7 @@ returns-in-Ok-clause-closed g c = λ steady.
 pub returns-in-Ok-clause-journal : goal.returns-in-Ok-clause-journal
 returns-in-Ok-clause-journal g c =
     let place = (goal.at.returns-in-Ok-clause-journal g c).After-write_back-arg-2-1 in
-    c.into_store-in-Ok.ensures.journal ∙ c.in-Ok.ensures.calls.journal ∙ ap (noted c.self.inside.pages.journal) (steps g place) ∙ ap (λ (t : TableView). noted t.pages.journal (closing t)) c.self.view_is
+    c.into_store-in-Ok.ensures.journal ∙ c.in-Ok.ensures.calls.journal ∙ ap (noted_steps c.self.inside.pages.journal) (steps g place) ∙ ap (λ (t : TableView). noted_steps t.pages.journal (closing t)) c.self.view_is
 
 pub returns-in-Err-clause-journal : goal.returns-in-Err-clause-journal
 returns-in-Err-clause-journal g c =
