@@ -97,14 +97,6 @@ still_unwritten ws n page (f ∷ fs) kept all = (
   still_unwritten ws n page fs (or_right (eqb n f) (is_freed fs n) kept) all.1,
 )
 
--- an edit that does nothing is tidy
-pub tidy_none : (pages : List (Option (List ℕ))) (visited : List ℕ) → IsTidy pages visited [] []
-tidy_none pages visited = record { written = tt; freed_in_use = tt; freed_not_written = tt; unvisited = λ q _. untouched_none q }
-
--- the same, of lists that are empty
-pub tidy_empty : (pages : List (Option (List ℕ))) (visited : List ℕ) (ws : List (ℕ × List ℕ)) (fs : List ℕ) → ws ≡ [] → fs ≡ [] → IsTidy pages visited ws fs
-tidy_empty pages visited ws fs no_writes none_freed = rw (no_writes, none_freed) (tidy_none pages visited)
-
 -- empty lists touch no page
 pub untouched_empty : (ws : List (ℕ × List ℕ)) (fs : List ℕ) (q : ℕ) → ws ≡ [] → fs ≡ [] → Untouched ws fs q
 untouched_empty ws fs q no_writes none_freed = rw (no_writes, none_freed) (untouched_none q)

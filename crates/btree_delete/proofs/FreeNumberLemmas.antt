@@ -78,14 +78,6 @@ free_all bits n q b past is = (
     down : (q n : ℕ) → q < n → nat_lt q n ≡ true
     down q n is = grind (arith, nat_tests)
 
--- below 1 no number is free
-pub none_free : (bits : List Bool) (q : ℕ) (b : Bool) → b ≡ false → b ≡ is_free_below bits 1 q
-none_free bits q b is = is ∙ sym (at q)
-  where
-    at : (q : ℕ) → is_free_below bits 1 q ≡ false
-    at zero = refl
-    at (suc q) = not_below (nat_le 1 (suc q)) (nat_lt (suc q) 1) (not (get_or bits (suc q) true)) (grind (arith, nat_tests))
-
 -- how many of them there are
 next_visited : (bits : List Bool) (m : ℕ) → m < length bits → get_or bits m true ≡ true → unreached (take (suc m) bits) ≡ unreached (take m bits)
 next_visited [] m low is = absurd (omega arith)

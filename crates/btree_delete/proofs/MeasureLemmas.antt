@@ -167,18 +167,6 @@ rooted_found layout k pages root start new reads reads' start_is sub =
       read = sub.read;
     }
 
--- an empty tree
-pub nothing_found : (layout : Layout) (k : ℕ) (pages : PageMap) (count root : ℕ) (new : SeenSoFar) (reads : ℕ) → root ≡ 0 → new ≡ record { reached = none_of count; leaf = None; keys = 0 } → WentThrough layout k pages count root new reads reads
-nothing_found layout k pages count root new reads none is = record {
-  height = 0;
-  es = [];
-  us = [];
-  rooted = record { tree = (none, refl, refl); ascends = tt; apart = tt };
-  low = omega arith;
-  is = is;
-  read = refl;
-}
-
 -- where a walk begins
 abbrev pub begin_with : List Bool → SeenSoFar
 begin_with reached = record { reached = reached; leaf = None; keys = 0 }

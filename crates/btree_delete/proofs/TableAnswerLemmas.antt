@@ -1,10 +1,9 @@
 -- What a table in a tree answers.
-use Rattle.std.proofs.Common.{◌≡◌, ℕ, suc, ◌<◌, ◌≤◌, Option, Some, None, Result, Ok, Err, MatchResult, List, [], ◌∷◌, length, refl, arith}
+use Rattle.std.proofs.Common.{◌≡◌, ℕ, suc, ◌<◌, ◌≤◌, Option, Some, None, Result, Ok, Err, MatchResult, List, [], ◌∷◌, length, arith}
 use Rattle.std.specs.Ordering.{nat_cmp}
 use Rattle.std.specs.Cmp.Lexicographic.{slice_cmp}
 use Rattle.std.specs.declared.cmp.Ordering.{Ordering}
 use Rattle.std.specs.declared.cmp.Ordering.TheVariants.{Less, Equal, Greater}
-use Rattle.rec_types.specs.Table.{is_device}
 use Rattle.page_store.specs.PageMap.{at}
 use Rattle.page_store.specs.FreeNumbers.{candidate}
 use Rattle.btree_node.specs.Lists.{Element}
@@ -12,20 +11,12 @@ use Rattle.btree_insert.specs.declared.tree.Tree.{Tree}
 use Rattle.btree_insert.specs.declared.tree.TreeFault.{TreeFault}
 use Rattle.btree_insert.specs.declared.tree.TreeFault.TheVariants.{Device as ReadFailed, Damaged as NoTreePage, Memory as NoMemory}
 use Rattle.btree_insert.specs.Contents.{by_order, lookup_in, set_in}
-use Rattle.btree_insert.specs.Faults.{is_tree_device as is_read_fault}
 use Rattle.btree_insert.specs.Inserted.{Inserted, IsRefused}
 use Rattle.btree_insert.specs.PagesGrown.{taking}
 use Rattle.btree_delete.specs.Deleted.{Deleted, MayStop}
 use Rattle.btree_delete.specs.TableView.{Fills}
 use Rattle.btree_delete.specs.TableAnswers.{table_fault, table_answer, IsSet, MayRefuse}
 use Rattle.btree_delete.proofs.TableLimitLemmas.{grown_alone, left_alone, grown_small, grown_count}
-
--- a read that fails is a device's failure
-pub same_device : {X : Type 0} (r : Result X TreeFault) → is_read_fault r ≡ is_device (table_answer r)
-same_device (Ok x) = refl
-same_device (Err ReadFailed) = refl
-same_device (Err (NoTreePage page)) = refl
-same_device (Err NoMemory) = refl
 
 -- the pages after an insertion
 pub put_set : (old new : List (Option (List ℕ))) (taken : ℕ) (tree next : Tree) (es : List Element) (us key value : List ℕ) (before : Option (List ℕ)) (limit : ℕ) → Fills old tree es us → Inserted (taking old (at new) taken) tree es us key value (next, before)

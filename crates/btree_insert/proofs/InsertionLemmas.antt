@@ -1,5 +1,5 @@
 -- A tree after an insertion at its root.
-use Rattle.std.proofs.Common.{◌≡◌, ℕ, zero, suc, ◌+◌, ◌^◌, ◌<◌, ◌≤◌, Option, None, IsSome, List, [], ◌∷◌, ◌++◌, length, refl, ap, sym, ◌∙◌, subst, arith, Some}
+use Rattle.std.proofs.Common.{◌≡◌, ℕ, zero, suc, ◌+◌, ◌<◌, ◌≤◌, Option, None, IsSome, List, [], ◌∷◌, ◌++◌, length, refl, ap, sym, ◌∙◌, subst, arith, Some}
 use Rattle.page_store.specs.PageMap.{PageMap, write_page, pages_with, after}
 use Rattle.btree_node.specs.Layout.{second_layout}
 use Rattle.btree_node.specs.Lists.{Element}
@@ -96,11 +96,6 @@ root_stands k left right e some fits left_son right_son = record { some = omega 
 
 pub some_not_none : (o : Option (List ℕ)) → IsSome o → o ≡ None → ⊥
 some_not_none o some none = let never : IsSome {T = List ℕ} None = subst IsSome none some in absurd (cc)
-
--- a page in use has a number
-pub son_in_use : (pages : PageMap) (p : ℕ) → pages 0 ≡ None → IsSome (pages p) → p < 2 ^ 32 → IsSon p
-son_in_use pages zero header used most = absurd (some_not_none (pages 0) used header)
-son_in_use pages (suc p) header used most = record { some = omega arith; most = most }
 
 -- where each page is the same, so is what an insertion came to
 pub inserted_at : (old mid new : PageMap) (fresh : ℕ → ℕ) (taken : ℕ) (tree next : Tree) (es : List Element) (us : List ℕ) (key value : List ℕ) (before : Option (List ℕ)) → ((q : ℕ) → mid q ≡ new q) → Inserted (pages_change old mid fresh 0 taken) tree es us key value (next, before)

@@ -9,7 +9,7 @@ use Rattle.btree_node.specs.Layout.{second_layout}
 use Rattle.btree_node.specs.Lists.{Element, IsPlace}
 use Rattle.btree_node.specs.Spelling.{ElementFits, CanStand}
 use Rattle.btree_insert.specs.declared.insert_below.Grown.TheVariants.{Split}
-use Rattle.btree_insert.specs.Growth.{in_one, replaced, with_son, MayGainSon}
+use Rattle.btree_insert.specs.Growth.{in_one, with_son, MayGainSon}
 use Rattle.btree_node.specs.declared.page_change.PageChange.{PageChange}
 use Rattle.btree_node.specs.Changes.{MayChange, ChangedBy}
 use Rattle.btree_node.specs.Spelling.{IsSpelt}
@@ -33,11 +33,6 @@ from_some None Q holds = tt
 pub never_split : (old : Option (List ℕ)) (m : Element) (r : ℕ) → in_one old ≡ Split m r → ⊥
 never_split (Some value) m r is = absurd (cc)
 never_split None m r is = absurd (cc)
-
--- what stood at the key
-pub replaced_in_one : (old : Option (List ℕ)) → replaced (in_one old) ≡ old
-replaced_in_one (Some value) = refl
-replaced_in_one None = refl
 
 -- a leaf with room for one more element
 pub leaf_stands : (k : ℕ) (n m : Node) (i : ℕ) (e : Element) → CanStand n k → n.kind ≡ Leaf → IsPlace n.elements.items e.0 i → length n.elements.items < 2 * k → ElementFits second_layout e → m.kind ≡ n.kind → m.elements.items ≡ insert n.elements.items i e → m.sons.items ≡ n.sons.items → CanStand m k

@@ -99,17 +99,6 @@ last_fan tree (s ∷ []) [] es us none size here = here
 last_fan tree (s ∷ []) (e ∷ els) es us none size here = absurd (omega arith)
 last_fan tree (s ∷ (t ∷ ss)) els es us none size here = absurd (omega arith)
 
--- those below the last son
-pub adds_last : (tree : Stands) (sons : List ℕ) (els : List Element) (b : Bounds) (told : List Element → Type 0) (left left' : ℕ) → length els ≡ 0 → length sons ≡ length els + 1 → Adds (tree (get_or sons 0 0)) b told left left' → Adds (Fan tree sons els) b told left left'
-adds_last tree sons els b told left left' none size adds = record {
-  es = adds.es;
-  us = adds.us;
-  here = last_fan tree sons els adds.es adds.us none size adds.here;
-  between = adds.between;
-  added = adds.added;
-  fewer = adds.fewer;
-}
-
 -- a fan of a first son, the element behind it and the others
 pub more_fan : (tree : Stands) (sons : List ℕ) (els xs ys : List Element) (x : Element) (us vs : List ℕ) → 0 < length els → length sons ≡ length els + 1 → x ≡ get_or els 0 x → tree (get_or sons 0 0) xs us → Fan tree (drop 1 sons) (drop 1 els) ys vs → Fan tree sons els (xs ++ x ∷ ys) (us ++ vs)
 more_fan tree [] els xs ys x us vs some size is first more = absurd (omega arith)

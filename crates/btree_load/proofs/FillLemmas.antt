@@ -3,9 +3,9 @@ use Rattle.std.proofs.Common.{◌≡◌, ℕ, length, Result, Ok, refl, sym, sub
 use Rattle.std.proofs.lemmas.List.{length-take-le}
 use Rattle.rec_types.specs.Table.{counted}
 use Rattle.page_store.specs.declared.store_state.StoreState.{Ghosts}
-use Rattle.btree_load.specs.Faults.{is_fill_device}
+use Rattle.page_store.specs.WriteFaults.{write_by_device}
 use Rattle.btree_load.specs.Filling.{IsOpen, FillsStore, HasPages, KeepsLength, written_pages}
-use Rattle.btree_load.specs.declared.fault.FillFault.{FillFault}
+use Rattle.page_store.specs.declared.page_edit.WriteFault.{WriteFault}
 
 -- no call yet
 pub none_yet : {S : Type 0} (s : Ghosts S) (store : S) → FillsStore {A = Unit {0}} s store (Ok tt) store
@@ -19,13 +19,13 @@ none_yet s store = record {
 }
 
 -- calls that did what they were to, and further ones
-pub fills_then : {S A B : Type 0} (s : Ghosts S) (old mid new : S) (x : A) (answer : Result B FillFault) → FillsStore s old (Ok x) mid → FillsStore s mid answer new → FillsStore s old answer new
+pub fills_then : {S A B : Type 0} (s : Ghosts S) (old mid new : S) (x : A) (answer : Result B WriteFault) → FillsStore s old (Ok x) mid → FillsStore s mid answer new → FillsStore s old answer new
 fills_then s old mid new x answer first second = record {
   steady = second.steady ∙ first.steady;
   opening = second.opening ∙ first.opening;
   reads = second.reads ∙ first.reads;
   shapes = second.shapes ∙ first.shapes;
-  failures = second.failures ∙ ap (λ n. counted n (is_fill_device answer)) first.failures;
+  failures = second.failures ∙ ap (λ n. counted n (write_by_device answer)) first.failures;
   guard = λ is. second.guard (subst IsOpen (sym (first.guard is)) is) ∙ first.guard is;
 }
 

@@ -258,12 +258,6 @@ full_step k count at size pages share (inl is) low =
     (cases_lt (3 * k) (count - at))
 full_step k count at size pages share (inr (few, fewest)) low = absurd (omega (arith, few, low))
 
-pub full_ends : (k count at pages : ℕ) → at ≤ count → count - at ≤ 2 * k → Fullness k count at pages → AreFewest k count (pages + 1)
-full_ends k count at pages within few (inl is) =
-    let more = one_more pages (2 * k + 1) in
-    record { enough = omega (arith, is, more, few, within); fewer = omega (arith, is, more, within) }
-full_ends k count at pages within few (inr (low, fewest)) = fewest
-
 -- one element more
 pub longer : (new old : List Element) (x : Element) → new ≡ old ++ x ∷ [] → length new ≡ length old + 1
 longer new old x is = ap length is ∙ length-append old (x ∷ [])

@@ -1,4 +1,3 @@
-pub mod Faults
 pub mod Filling
 pub mod Rows
 pub mod Trees

@@ -1,8 +1,7 @@
 ghost use Rattle.std.specs.Prelude.{◌≡◌, ◌+◌, ◌++◌, ◌∷◌, [], IsTrue, IfOk, OnOk};
 ghost use Rattle.btree_load.specs.Filling.{FillsStore, HasPages, KeepsLength, written_pages};
 
-use crate::fault::FillFault;
-use page_store::Store;
+use page_store::{Store, WriteFault};
 use rec_types::PAGE_WIDTH;
 
 /// Writes the page behind those that were written, of which there are so many, and answers its number. Fault: Device.
@@ -10,7 +9,7 @@ pub(crate) fn append_page<S: Store>(
     store: &mut S,
     count: &mut u32,
     page: &[u8; PAGE_WIDTH],
-) -> Result<u32, FillFault>
+) -> Result<u32, WriteFault>
     requires { HasPages S.StoreState count.old 1 store.old }
     ensures number { IfOk result (λ n. n ≡ count.old) }
     ensures count { OnOk result (count.new ≡ count.old + 1) }

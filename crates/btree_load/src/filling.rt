@@ -6,10 +6,9 @@ ghost use Rattle.btree_insert.specs.Sizes.{greatest_size};
 ghost use Rattle.btree_load.specs.Filling.{FillsStore, KeepsLength, written_pages};
 ghost use Rattle.btree_load.specs.Trees.{AreLevels, HasLevels, HasRoot, IsFilled};
 
-use crate::fault::FillFault;
 use crate::rows::write_row;
 use btree_node::{Header, NodeKind, SECOND_VERSION, write_header};
-use page_store::Store;
+use page_store::{Store, WriteFault};
 use rec_types::{Key, Record};
 use std::alloc::Global;
 
@@ -38,7 +37,7 @@ fn write_tree<S: Store>(
     count: &mut u32,
     k: u16,
     records: &[(Key, Record)],
-) -> Result<u32, FillFault>
+) -> Result<u32, WriteFault>
     requires order { IsOrder k }
     requires ascends { Ascends records.now }
     requires room { HasLevels S.StoreState k count.old (length records.now) store.old }
@@ -67,7 +66,7 @@ fn write_tree<S: Store>(
 }
 
 /// Writes page 0, which is there, with a header. Fault: Device; page 0 then has any bytes.
-fn put_header<S: Store>(store: &mut S, header: &Header, clean: bool) -> Result<(), FillFault>
+fn put_header<S: Store>(store: &mut S, header: &Header, clean: bool) -> Result<(), WriteFault>
     requires order { IsOrder header.now.order }
     requires version { header.now.version ≡ second_version }
     requires there { 0 < length (S.pages store.old) }
@@ -92,7 +91,7 @@ pub fn fill<S: Store>(
     store: &mut S,
     k: u16,
     records: &[(Key, Record)],
-) -> Result<(), FillFault>
+) -> Result<(), WriteFault>
     requires order { IsOrder k }
     requires ascends { Ascends records.now }
     requires few { length records.now ≤ greatest_size }

@@ -2,12 +2,10 @@
 #![tactic(auto)]
 
 mod appending;
-mod fault;
 mod filling;
 pub mod laws;
 mod rows;
 mod sorted;
 
-pub use fault::FillFault;
 pub use filling::fill;
 pub use sorted::is_sorted;

@@ -8,10 +8,9 @@ ghost use Rattle.btree_load.specs.Filling.{FillsStore, KeepsLength, written_page
 ghost use Rattle.btree_load.specs.Rows.{wide, from, IsWide, NodeStandsFor, IsRow, AreFewest, HasLevelRoom, TakesShare};
 
 use crate::appending::append_page;
-use crate::fault::FillFault;
 use arrayvec::ArrayVec;
 use btree_node::{ELEMENT_ROOM, Node, NodeKind, SON_ROOM, encode};
-use page_store::Store;
+use page_store::{Store, WriteFault};
 use rec_types::{KEY_WIDTH, Key, RECORD_WIDTH, Record};
 use std::alloc::Global;
 
@@ -92,7 +91,7 @@ pub(crate) fn write_row<S: Store>(
     kind: NodeKind,
     elements: &[(Key, Record)],
     sons: &[u32],
-) -> Result<Row, FillFault>
+) -> Result<Row, WriteFault>
     requires order { IsOrder k }
     requires some { 0 < length elements.now }
     requires wide { IsWide (wide kind elements.now sons.now) }

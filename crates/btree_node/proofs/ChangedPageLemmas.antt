@@ -74,11 +74,6 @@ moved_put at start len now page within is =
     is ∙ append_assoc (take at page) (take len (drop start page)) (drop (at + len) page)
     ∙ ap (λ n. take at page ++ (take len (drop start page) ++ drop (at + n) page)) (sym size)
 
--- bytes written over keep the page's length
-pub length-put_at : (at : ℕ) (xs page : List ℕ) → at + length xs ≤ length page → length (put_at at xs page) ≡ length page
-unfolding put_at
-length-put_at at xs page within = omega (arith, length-append {A = ℕ}, length-take-le at page (omega arith), length-drop {A = ℕ})
-
 -- a write to a part of the page
 pub put_mid-put_at : (at n : ℕ) (now bytes page : List ℕ) → now ≡ bytes → n ≡ length bytes → put_mid at n page now ≡ put_at at bytes page
 unfolding put_at

@@ -2,7 +2,7 @@
 use Rattle.std.proofs.Common.{◌≡◌, ℕ, ◌+◌, ◌-◌, ◌*◌, ◌^◌, ◌<◌, ◌≤◌, zero, suc, Bool, true, false, cond, ◌&&◌, nat_lt, List, [], ◌∷◌, length, take, drop, drop-cons, get_or, Some, None, refl, sym, ap, subst, ◌∙◌, arith, add-one}
 use Rattle.std.proofs.lemmas.Bool.Decides.{nat_tests}
 use Rattle.std.proofs.lemmas.List.{drop_all, take_all}
-use Rattle.std.proofs.lemmas.List.Folds.{list_all_more, list_all_at}
+use Rattle.std.proofs.lemmas.List.Folds.{list_all_more}
 use Rattle.std.proofs.Math.Nat.{pow-suc, mul-le-mul_left}
 use Rattle.std.specs.List.{list_all}
 use Rattle.command_text.specs.Grammar.{is_word, is_digit, value_of, number_of}
@@ -34,10 +34,6 @@ reads_more word i n d lt read so_far =
     let was = sym (ap (λ xs. n * 10 ^ length xs + value_of xs) cut ∙ ap (λ v. n * 10 ^ suc (length rest) + v) (value-cons d rest) ∙ ap (λ p. n * p + ((d - 48) * 10 ^ length rest + value_of rest)) (pow-suc 10 (length rest)) ∙ regroup n (d - 48) (10 ^ length rest) (value_of rest)) ∙ so_far in
     rw add-one was
 
--- no digit read is 0
-pub reads_none : (word : List ℕ) → Reads word 0 0
-reads_none word = omega arith
-
 -- too large already
 pub reads_large : (word : List ℕ) (i n : ℕ) → Reads word i n → 2 ^ 32 ≤ n → number_of word ≡ None
 reads_large word i n reads large = at (is_word word) (list_all is_digit word) (nat_lt (value_of word) (2 ^ 32)) refl
@@ -53,15 +49,6 @@ reads_large word i n reads large = at (is_word word) (list_all is_digit word) (n
     at true true false is = refl
     at true false l is = refl
     at false d l is = refl
-
--- a byte that is no digit
-pub not_digits : (word : List ℕ) → list_all is_digit word ≡ false → number_of word ≡ None
-not_digits word is = at (is_word word) (nat_lt (value_of word) (2 ^ 32)) (list_all is_digit word) is
-  where
-    at : (w l d : Bool) → d ≡ false → cond ((w && d) && l) (Some (value_of word)) None ≡ None
-    at w l true is = absurd (cc)
-    at true l false is = refl
-    at false l false is = refl
 
 word_is : (word : List ℕ) → 0 < length word → is_word word ≡ true
 word_is [] some = absurd (omega arith)
@@ -79,10 +66,6 @@ reads_all word n some reads digits small =
 -- one more byte that is a digit
 pub digits_more : (word : List ℕ) (i : ℕ) → i < length word → list_all is_digit (take i word) ≡ true → is_digit (get_or word i 0) ≡ true → list_all is_digit (take (i + 1) word) ≡ true
 digits_more word i lt before here = list_all_more is_digit word i 0 lt ∙ (λ j. before j && here j)
-
--- a word with a byte that is no digit is no number
-pub digit_missing : (word : List ℕ) (i : ℕ) → i < length word → is_digit (get_or word i 0) ≡ false → number_of word ≡ None
-digit_missing word i lt here = not_digits word (list_all_at is_digit word i 0 lt here)
 
 -- the same, with the digit's value
 pub reads_digit : (word : List ℕ) (i n digit : ℕ) → i < length word → digit ≡ get_or word i 0 - 48 → Reads word i n → Reads word (i + 1) (n * 10 + digit)

@@ -78,10 +78,6 @@ word_none xs some is =
     ∙ ap (λ (t : Bool). cond t (xs ∷ []) []) (whole_word xs some)
     ∙ ap (λ (rest : List ℕ). xs ∷ words_of rest) (sym (rest_cut xs (length xs) ∙ drop_all (length xs) xs (omega arith)))
 
--- a line with nothing left has no words
-pub no_words : (xs ys : List ℕ) → words_of ys ≡ words_of xs → ys ≡ [] → words_of xs ≡ []
-no_words xs ys same none = sym same ∙ ap words_of none
-
 -- a line whose first word isn't a comment's says the command of that name
 pub named : (line name : List ℕ) (words : List (List ℕ)) → words_of (strip_last 13 line) ≡ name ∷ words → begins_with_hash name ≡ false → line_of line ≡ read_as Some (command_of name words)
 unfolding line_of

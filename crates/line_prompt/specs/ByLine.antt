@@ -1,5 +1,5 @@
 -- What one read of lines gives.
-use Rattle.std.specs.Prelude.{◌≡◌, ℕ, List, ◌++◌, Option, IfSome, take}
+use Rattle.std.specs.Prelude.{◌≡◌, ℕ, List, [], ◌∷◌, ◌++◌, Option, IfSome, take}
 use Rattle.std.specs.Io.{StopsAt}
 use Rattle.std.specs.Io.BufRead.{take_through}
 
@@ -22,3 +22,7 @@ KeepsFirstLine kept left = IfSome left (λ bytes. first_line_part bytes ≡ take
 -- where the bytes that are left are known, a read gave their first line, as much of it as there was room for
 abbrev pub GivesFirstLine : Option (List ℕ) → ℕ → List ℕ → Type 0
 GivesFirstLine left room given = IfSome left (λ bytes. given ≡ take room (first_line_part bytes))
+
+-- the lines a and b
+abbrev pub lines_a_and_b : List ℕ
+lines_a_and_b = 97 ∷ 10 ∷ 98 ∷ 10 ∷ []

@@ -6,6 +6,7 @@ mod chain;
 mod ending;
 mod heard;
 mod help;
+pub mod laws;
 mod picture;
 mod prompted;
 mod watch;

@@ -1,33 +1,17 @@
 use crate::chain::{ChainRecord, Deed, OpenTx, undo_from};
 use crate::watch::Watch;
-use rec_types::{Key, TxId};
+use rec_types::TxId;
+use std::io;
 use std::io::Write;
-use std::{fmt, io};
 
 // The most transactions that are drawn, and the most records of each: the newest.
 const MOST_CHAINS: u32 = 12;
 
 const MOST_RECORDS: usize = 24;
 
-/// A key as replies write it: the bytes 0 to 32, 37 and 127 to 255 as `%` and two digits.
-#[derive(Clone, Copy)]
-struct KeyText(Key);
-
-impl fmt::Display for KeyText {
-    fn fmt<W: fmt::Write>(&self, f: &mut fmt::Formatter<W>) -> fmt::Result {
-        for byte in self.0.bytes() {
-            match *byte {
-                33..=36 | 38..=126 => f.write_char(char::from(*byte))?,
-                _ => write!(f, "%{byte:02X}")?,
-            }
-        }
-        Ok(())
-    }
-}
-
 // What a record says, behind its number and that of the one before it.
 fn draw_deed<E: Write>(record: &ChainRecord, err: &mut E) -> io::Result<()> {
-    let key = KeyText(record.key);
+    let key = record.key;
     match record.deed {
         Deed::Put => write!(err, "put {key}")?,
         Deed::Del => write!(err, "del {key}")?,

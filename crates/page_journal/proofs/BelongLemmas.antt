@@ -1,9 +1,9 @@
 -- The sum over the pages that a side file doesn't keep, taken between one kept number and the next.
-use Rattle.std.proofs.Common.{◌≡◌, ◌↔◌, ◌⊎◌, ⊎_elim, ℕ, zero, suc, ◌+◌, ◌<◌, ◌≤◌, Bool, true, false, ◌||◌, List, [], ◌∷◌, ◌++◌, length, take, Option, Some, None, slice_get, get_or, unwrap_or, MatchOption, refl, sym, ◌∙◌, ap, subst, arith}
+use Rattle.std.proofs.Common.{◌≡◌, ◌⊎◌, ⊎_elim, ℕ, zero, suc, ◌+◌, ◌<◌, ◌≤◌, Bool, true, false, ◌||◌, List, [], ◌∷◌, ◌++◌, length, take, Option, Some, slice_get, get_or, unwrap_or, refl, sym, ◌∙◌, ap, subst, arith}
 use Rattle.std.proofs.Math.Numerals.{add-one}
 use Rattle.std.proofs.lemmas.Bool.{ne_eqb}
 use Rattle.std.proofs.lemmas.List.{take_all}
-use Rattle.page_journal.specs.Files.{SideFile, Files, AscendBelow, SaysRest, IsOf, is_kept}
+use Rattle.page_journal.specs.Files.{SideFile, Files, AscendBelow, is_kept}
 use Rattle.page_journal.specs.Sums.{SumsOn, sum_on, sum_without}
 use Rattle.page_journal.specs.Steps.{kept_at, side_shape}
 use Rattle.page_journal.specs.declared.disk_state.DiskState.{Ghosts}
@@ -119,13 +119,3 @@ pub of_shape : (kept : SideFile) (side : SideShape) (pages : List (List ℕ)) �
 of_shape kept side pages is =
     let same : record { long = kept.long; kept = length kept.pages; rest = kept.rest } ≡ side = ap (λ (o : Option SideShape). unwrap_or o side) is in
     (ap (λ (p : SideShape). p.long) same, ap (λ (p : SideShape). p.kept) same, ap (λ (p : SideShape). p.rest) same)
-
-pub says_nothing : (kept : SideFile) (pages : List (List ℕ)) → kept.long ≤ length pages → kept.rest ≡ None → IsOf kept pages
-says_nothing kept pages long none = record { long = long; rest = subst (SaysRest kept pages) (sym none) tt }
-
-pub says_rest : (kept : SideFile) (pages : List (List ℕ)) (rest : ℕ) (found : Option ℕ) → kept.long ≤ length pages → kept.rest ≡ Some rest → MatchOption found (AscendBelow 0 kept.long kept.pages → ⊥) (λ sum. AscendBelow 0 kept.long kept.pages × (sum ≡ sum_without (is_kept kept.pages) kept.long pages)) → (found ≡ Some rest) ↔ IsOf kept pages
-says_rest kept pages rest None long some had = (λ is. absurd (cc), λ own. absurd (had (subst (SaysRest kept pages) some own.rest).0))
-says_rest kept pages rest (Some sum) long some had = (
-  λ is. record { long = long; rest = subst (SaysRest kept pages) (sym some) (had.0, sym (ap (λ (o : Option ℕ). unwrap_or o rest) is) ∙ had.1) },
-  λ own. ap (λ (m : ℕ). Some m) (had.1 ∙ sym (subst (SaysRest kept pages) some own.rest).1),
-)

@@ -1,9 +1,9 @@
 -- What the calls of a disk make of a log that is ready.
-use Rattle.std.proofs.Common.{◌≡◌, ◌⊎◌, inl, inr, ⊎_elim, ℕ, ◌+◌, ◌-◌, ◌<◌, ◌≤◌, Bool, true, false, is_some, List, [], ◌∷◌, ◌++◌, length, take, drop, unwrap_or, Option, Some, None, option_map, Result, Ok, Err, OnErr, refl, sym, ◌∙◌, ap, subst, arith, append_assoc}
+use Rattle.std.proofs.Common.{◌≡◌, ◌⊎◌, inl, inr, ⊎_elim, ℕ, ◌+◌, ◌-◌, ◌<◌, ◌≤◌, Bool, true, false, is_some, List, [], ◌∷◌, ◌++◌, length, take, drop, Option, Some, None, option_map, Result, Ok, Err, OnErr, refl, sym, ◌∙◌, ap, subst, arith, append_assoc}
 use Rattle.std.proofs.lemmas.Bool.{false≢true}
-use Rattle.std.proofs.lemmas.List.{append-nil, take_all, take_at}
+use Rattle.std.proofs.lemmas.List.{append-nil, take_at}
 use Rattle.std.proofs.lemmas.Option.{none-some}
-use Rattle.commit_paper.specs.Text.{units_of, zeros, unit_text, log_text, IsUnit, AreUnits}
+use Rattle.commit_paper.specs.Text.{zeros, unit_text, log_text, IsUnit}
 use Rattle.commit_paper.specs.Shown.{Shows}
 use Rattle.commit_paper.specs.Steps.{Lengthens, Inks}
 use Rattle.commit_paper.proofs.Shown.{shown_units, before, torn_longer, longer, torn_ink, inked, more_units, more_end}
@@ -247,10 +247,3 @@ module _ {D : Type 0} (g : Ghosts D) (unit : List (List ℕ)) (head : List ℕ) 
                       let log = subst (λ f. (f.commits.log ≡ None) ⊎ (f.commits.log ≡ Some first)) (sym from.2) has in
                       (first, named_or_none (Shows (unit ∷ []) room) c.commits.log first log (ap (λ (b : Bool × Bool). b.1) (keeps c left) ∙ ap is_some there), one_shown);
                 }
-
--- all the bytes of a log that are read
-pub read_whole : (log : Option (List ℕ)) (long n : ℕ) (to : List ℕ) → Some long ≡ option_map length log → n ≡ long → option_map (λ b. take n (drop 0 b)) log ≡ Some to → log ≡ Some to
-read_whole None long n to longs same bytes = absurd (none-some long (sym longs))
-read_whole (Some b) long n to longs same bytes =
-    let all : take n b ≡ b = take_all n b (omega (arith, same, ap (λ (o : Option ℕ). unwrap_or o 0) longs)) in
-    ap (λ (k : List ℕ). Some k) (sym all) ∙ bytes

@@ -84,9 +84,6 @@ commits_do step call result old new ok err does means none =
     (does_call (InCommits step) (Commits call) old (record { main = refl; fresh = refl; side = refl; commits = does (all_done old.first old.calls).commits }) (λ d c lead. record { main = lead.main; fresh = lead.fresh; side = lead.side; commits = means (all_done old.first old.calls).commits d.commits c.commits lead.commits }))
     (does_fail (InCommits step) old (λ d. record { main = refl; fresh = refl; side = refl; commits = none d.commits }))
 
-pub commits_fail : (step : CommitFiles → CommitFiles → Type 0) (old new : History) → new ≡ failed_more old → ((d : CommitFiles) → step d d) → Does mem_ghosts (InCommits step) old new
-commits_fail step old new is none = subst (λ h. Does mem_ghosts (InCommits step) old h) (sym is) (does_fail (InCommits step) old (λ d. record { main = refl; fresh = refl; side = refl; commits = none d.commits }))
-
 -- a call that isn't carried out, and isn't counted
 does_not : (step : Files → Files → Type 0) (old : History) → ((d : Files) → step d d) → Does mem_ghosts step old old
 does_not step old none = record {

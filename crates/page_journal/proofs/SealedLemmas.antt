@@ -30,13 +30,6 @@ alone_stands main c none is = (subst (λ (s : Option SideFile). BelongsTo s c.ma
 pub stands_as : (old c : Files) (main : PageFile) → main ≡ recovered old → FilesStandFor main c → StandsAs old c
 stands_as old c main is stands = (λ _. stands.0, stands.1 ∙ is)
 
--- so do files that are the same
-pub same_stands : (old c : Files) → c.main ≡ old.main → c.side ≡ old.side → StandsAs old c
-same_stands old c main side = (
-  subst (λ (s : Option SideFile). BelongsTo s old.main.pages → BelongsTo c.side c.main.pages) side (subst (λ (m : PageFile). BelongsTo c.side m.pages → BelongsTo c.side c.main.pages) main (λ own. own)),
-  λ i. recovered_by (side i) (main i),
-)
-
 module _ {D : Type 0} (g : Ghosts D) where
   pub sealed_stands : (kept : SideFile) (base : List (List ℕ)) (disk : D) → IsSealed g kept base disk → (c : Files) → g.may_leave disk c → FilesStandFor (restored kept base) c
   sealed_stands kept base disk sealed c left =

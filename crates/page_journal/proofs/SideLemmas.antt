@@ -120,10 +120,6 @@ only_taken kept bytes is =
       is.spelt ∙ ap (λ h. h ++ entries_bytes kept.pages) (header_all kept),
     )
 
--- the number of an entry is that of its page
-pub entry_number : (n : ℕ) (page : List ℕ) → n < 4294967296 → big_number 4 (entry_bytes n page) ≡ n
-entry_number n page fits = big_number-reads_back 4 n page fits
-
 -- bytes that are compared with a header, by what it says of the rest
 pub spelt_by : (t : Tally) (rest : Option ℕ) (all bytes header : List ℕ) (same : Bool) → t.rest ≡ rest → bytes ≡ take (header_width rest) all → header ≡ side_header t.long t.kept rest (sum_on t.sum (front_bytes t.long t.kept rest))
     → (IsTrue same ↔ (bytes ≡ header)) → IsTrue same ↔ (take (header_width t.rest) all ≡ tally_header t)

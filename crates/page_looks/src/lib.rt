@@ -3,7 +3,7 @@
 
 mod explain;
 mod finding;
-mod key_text;
+mod key_label;
 mod log_head;
 mod page_view;
 mod picture;

@@ -1,4 +1,4 @@
-use crate::key_text::KeyLabel;
+use crate::key_label::KeyLabel;
 use crate::show::draw_level;
 use crate::tree_look::Levels;
 use crate::tree_walk::{Sight, Walk};

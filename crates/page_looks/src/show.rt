@@ -1,5 +1,4 @@
 use crate::finding::Finding;
-use crate::key_text::KeyText;
 use crate::tree_look::{Level, Levels};
 use crate::tree_walk::{Sight, Visit, Walk};
 use btree_node::{Header, Node};
@@ -31,7 +30,7 @@ fn draw_places<W: Write>(out: &mut W, taken: usize, order: u16) -> io::Result<()
 // The keys of a node.
 fn draw_keys<W: Write>(out: &mut W, node: &Node) -> io::Result<()> {
     for element in node.elements.iter() {
-        write!(out, " {}", KeyText(element.0))?;
+        write!(out, " {}", element.0)?;
     }
     Ok(())
 }

@@ -6,10 +6,6 @@ use Rattle.rec_types.specs.Contents.{Contents, set_to, same_key}
 use Rattle.rec_types.proofs.ContentsLemmas.{get-set_to, get-set_to-here, same_key-is}
 use Rattle.page_rescue.specs.Rescue.{GrowsBy, Is}
 
--- contents that stay the same grew from anywhere
-pub grows_not : {From : List ℕ → List ℕ → Type 0} (m : Contents) → GrowsBy From m m
-grows_not m = record { stays = λ k v is. is; only = λ k v is. inl is }
-
 -- what grew twice grew
 pub grows_on : {From : List ℕ → List ℕ → Type 0} (a b c : Contents) → GrowsBy From a b → GrowsBy From b c → GrowsBy From a c
 grows_on {From} a b c first next = record {

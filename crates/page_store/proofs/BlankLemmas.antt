@@ -1,6 +1,6 @@
 -- Pages of zeros, more of them and one of them written again.
-use Rattle.std.proofs.Common.{◌≡◌, ℕ, ◌+◌, ◌-◌, ◌≤◌, List, ◌++◌, length, get_or, set, ap, sym, ◌∙◌, arith, []}
-use Rattle.std.proofs.lemmas.List.{length-replicate, replicate-append-replicate, set-get_or}
+use Rattle.std.proofs.Common.{◌≡◌, ℕ, ◌+◌, ◌-◌, ◌≤◌, ◌++◌, length, ap, sym, ◌∙◌, arith}
+use Rattle.std.proofs.lemmas.List.{length-replicate, replicate-append-replicate}
 use Rattle.page_store.specs.Blank.{blank, blanks}
 
 -- more blank pages are fewer ones and the rest
@@ -8,7 +8,3 @@ pub blanks_more : (few many : ℕ) → few ≤ many → blanks many ≡ blanks f
 blanks_more few many fits =
     let long : few + (many - length (blanks few)) ≡ many = omega (arith, length-replicate few blank) in
     sym (replicate-append-replicate few (many - length (blanks few)) blank ∙ ap blanks long)
-
--- writing a blank page over a blank one changes nothing
-pub blanks_written : (many n : ℕ) → (page : List ℕ) × (blanks many ≡ set (blanks many) n page)
-blanks_written many n = (get_or (blanks many) n [], sym (set-get_or (blanks many) n []))

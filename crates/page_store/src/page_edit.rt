@@ -1,4 +1,6 @@
+use crate::store_fault::StoreFault;
 use rec_types::PAGE_WIDTH;
+use std::alloc::AllocFailed;
 use thiserror::Error;
 
 /// An edit of several pages, which is put in place whole or not at all.
@@ -21,11 +23,36 @@ pub enum FetchFault {
     OutOfRange,
 }
 
-/// Why the changed pages were not written back.
+/// Why pages were not written.
 #[derive(Clone, Copy, Debug, PartialEq, Eq, Error)]
 pub enum WriteFault {
-    #[error("a write to the store failed")]
+    #[error("a call of the store failed")]
     Device,
     #[error("out of memory")]
     Memory,
+}
+
+impl From<StoreFault> for WriteFault {
+    ghost use Rattle.std.specs.Prelude.{◌≡◌};
+    ghost use Rattle.page_store.specs.WriteFaults.{told};
+
+    ghost from_gives = { λ fault named. named ≡ told fault };
+
+    fn from(fault: StoreFault) -> WriteFault {
+        match fault {
+            StoreFault::Failed => WriteFault::Device,
+            StoreFault::Memory => WriteFault::Memory,
+        }
+    }
+}
+
+impl<T: Drop> From<AllocFailed<T>> for WriteFault {
+    ghost use Rattle.std.specs.Prelude.{◌≡◌};
+    ghost use Rattle.page_store.specs.declared.page_edit.WriteFault.TheVariants.{Memory as NoMemory};
+
+    ghost from_gives = { λ _ fault. fault ≡ NoMemory };
+
+    fn from(_: AllocFailed<T>) -> WriteFault {
+        WriteFault::Memory
+    }
 }

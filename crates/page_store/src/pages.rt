@@ -24,7 +24,7 @@ use crate::slot::{
     write_pages,
 };
 use crate::store::Store;
-use crate::write_back::{told, write_out};
+use crate::write_back::write_out;
 use btree_node::PageChange;
 use rec_types::{Memory, PAGE_WIDTH};
 use std::alloc::Global;
@@ -353,7 +353,7 @@ impl<S: Store> Pages<S> {
             clean,
         );
         if let Err(fault) = written {
-            return Err(told(fault));
+            return Err(WriteFault::from(fault));
         }
         self.changed.clear();
         self.edited = false;

@@ -6,26 +6,14 @@ ghost use Rattle.page_store.specs.Journal.{writes_below, writing_back};
 ghost use Rattle.page_store.specs.declared.step.Step.{Step};
 ghost use Rattle.page_store.specs.StoreFaults.{AsksNoMemory};
 ghost use Rattle.page_store.specs.Overlaid.{slots_of};
-ghost use Rattle.page_store.specs.WriteFaults.{told};
 ghost use Rattle.page_store.specs.WritingBack.{to_write, AreStored, SameBut, KeepsOthers, Stopped};
 ghost use Rattle.page_store.specs.Carrying.{Carries, IsLong, OnlyGrows};
 
-use crate::page_edit::WriteFault;
 use crate::slot::{Slot, changed_page, is_in_use};
 use crate::store::Store;
 use crate::store_fault::StoreFault;
 use rec_types::PAGE_WIDTH;
 use std::collections::BTreeSet;
-
-/// The fault of a writing back that a fault of the store ends.
-pub(crate) fn told(fault: StoreFault) -> WriteFault
-    ensures { result ≡ told fault }
-{
-    match fault {
-        StoreFault::Failed => WriteFault::Device,
-        StoreFault::Memory => WriteFault::Memory,
-    }
-}
 
 /// The changed page of that number, where the page is in use.
 pub(crate) fn page_to_write<'a>(

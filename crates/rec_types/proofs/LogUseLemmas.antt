@@ -1,7 +1,7 @@
 -- How a step changes the length of the log and its use.
 use Rattle.std.proofs.Common.{◌≡◌, ℕ, ◌+◌, ◌≤◌, ◌<◌, zero, suc, Bool, true, false, cond, if◌then◌else◌, not, ◌&&◌, eqb, nat_lt, List, [], ◌∷◌, ◌++◌, length, filter, refl, sym, ap, ◌∙◌, IsTrue, arith, length-append}
 use Rattle.std.proofs.lemmas.Bool.Decides.{nat_tests}
-use Rattle.rec_types.specs.History.{Change, live_of, taken_back, live_from, is_taken, is_pending, log_len, log_use, undo_last}
+use Rattle.rec_types.specs.History.{Change, live_of, taken_back, live_from, is_taken, is_pending, log_len, undo_last}
 use Rattle.rec_types.specs.Kept.{Kept, change_of, history_of, AllBegun}
 
 count_more : (p : Change → Bool) (h : List Change) (c : Change) → length (filter p (h ++ c ∷ [])) ≡ length (filter p h) + cond (p c) 1 0
@@ -19,10 +19,6 @@ count_more p (d ∷ h) c = at (p d) (count_more p h c)
 -- a live change adds one record, and may need another
 pub log_len-push : (h : List Change) (c : Change) → c.live ≡ true → log_len (h ++ c ∷ []) ≡ log_len h + 1
 log_len-push h c live = omega (arith, length-append h (c ∷ []), count_more is_taken h c, ap {B = ℕ} (λ b. cond (not b) 1 0) live)
-
--- a live change of an open transaction uses two records of the log: its own and its compensation's
-pub log_use-push : (is_open : ℕ → Bool) (h : List Change) (c : Change) → c.live ≡ true → is_open c.tx ≡ true → log_use is_open (h ++ c ∷ []) ≡ log_use is_open h + 2
-log_use-push is_open h c live is = omega (arith, log_len-push h c live, count_more (is_pending is_open) h c, ap {B = ℕ} (λ b. cond (b && is_open c.tx) 1 0) live, ap {B = ℕ} (λ b. cond b 1 0) is)
 
 -- the counts of one more change in front
 count_front : (p : Change → Bool) (c : Change) (h : List Change) (b : Bool) → p c ≡ b → length (filter p (c ∷ h)) ≡ cond b 1 0 + length (filter p h)
@@ -69,12 +65,6 @@ log_len-undo_last t h some =
     let counts = counts-undo_last (λ _. false) t h some in
     omega (arith, counts.as_long, counts.taken)
 
--- taking back a change of an open transaction leaves the use
-pub log_use-undo_last : (is_open : ℕ → Bool) (t : ℕ) (h : List Change) → is_open t ≡ true → 0 < live_from h t zero → log_use is_open (undo_last t h) ≡ log_use is_open h
-log_use-undo_last is_open t h is some =
-    let counts = counts-undo_last is_open t h some in
-    omega (arith, counts.as_long, counts.taken, counts.pending, ap {B = ℕ} (λ b. cond b 1 0) is)
-
 fewer_pending : (is_open also_open : ℕ → Bool) (n : ℕ) (cs : List Kept) → ((t : ℕ) → t ≤ n → IsTrue (also_open t) → IsTrue (is_open t)) → AllBegun n cs → length (filter (is_pending also_open) (history_of cs)) ≤ length (filter (is_pending is_open) (history_of cs))
 fewer_pending is_open also_open n [] within begun = omega arith
 fewer_pending is_open also_open n (c ∷ cs) within begun = at c.live (also_open c.tx) (is_open c.tx) refl refl refl (fewer_pending is_open also_open n cs within begun.1)
@@ -96,7 +86,3 @@ fewer_pending is_open also_open n (c ∷ cs) within begun = at c.live (also_open
         less true true false also_is is_is front back = absurd (cc (sym is_is ∙ within c.tx begun.0 also_is))
         less true false is also_is is_is front back = omega arith
         less false also is also_is is_is front back = omega arith
-
--- with fewer transactions open, or one more of which there is no change, no more is used
-pub log_use-within : (is_open also_open : ℕ → Bool) (n : ℕ) (cs : List Kept) → ((t : ℕ) → t ≤ n → IsTrue (also_open t) → IsTrue (is_open t)) → AllBegun n cs → log_use also_open (history_of cs) ≤ log_use is_open (history_of cs)
-log_use-within is_open also_open n cs within begun = omega (arith, fewer_pending is_open also_open n cs within begun)

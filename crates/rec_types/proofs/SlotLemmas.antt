@@ -389,13 +389,6 @@ short_read long None none = refl
 short_read long (Some (Short bytes)) none = refl
 short_read long (Some (Long at)) none = absurd (false≢true (no_place (Some (Long at)) at none refl))
 
--- what stood at a place is what stood at its key
-pub record_there : (slots : Slots) (long : Pairs) (es : Pairs) (k : List ℕ) (at : ℕ) (p : List ℕ × List ℕ) → pairs_in slots long ≡ es → at < length long → slot_at slots k ≡ Some (Long at) → p ≡ get_or long at p → Some p.1 ≡ lookup (same_bytes k) es
-record_there slots long es k at p view within at_k read =
-    ap (λ (e : List ℕ × List ℕ). Some e.1) (read ∙ get_or_default long at p ([], []) within)
-    ∙ ap (option_map (record_in long)) (sym at_k)
-    ∙ record_seen slots slots long long es view k
-
 -- what stands at an index
 pub pair_seen : (slots : Slots) (long : Pairs) (es : Pairs) (index : ℕ) (k : List ℕ) (slot : Slot) → pairs_in slots long ≡ es → slice_get slots index ≡ Some (k, slot) → (k, record_in long slot) ≡ pair_at es index
 pair_seen slots long es index k slot view there =

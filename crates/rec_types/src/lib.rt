@@ -5,6 +5,7 @@ mod compact_map;
 mod flaky_table;
 mod key;
 mod key_order;
+mod key_text;
 pub mod laws;
 mod limits;
 mod memory;

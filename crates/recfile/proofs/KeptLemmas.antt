@@ -1,6 +1,5 @@
 -- What a session over a disk leaves.
 use Rattle.std.proofs.Common.{◌≡◌, ◌≤◌, ℕ, inl, inr, Option, Some, None, MatchOption, Result, Ok, Err, OnOk, refl, sym, subst}
-use Rattle.std.specs.Result.{is_ok}
 use Rattle.rec_types.specs.Contents.{Contents}
 use Rattle.rec_types.specs.LimitBounds.{most_records}
 use Rattle.btree_delete.specs.TableView.{TableView, IsClosed, table_contents}
@@ -24,11 +23,6 @@ pub holds_records : (was now : TableView) (file found : PageFile) → was.tree.o
     → IsClosed 2 file.pages file.tail was.tree (table_contents was) → was.tree.count ≤ most_records → HoldsRecords now.tree.order (table_contents now) found
 holds_records was now file found order same is closed count =
     subst (HoldsRecords now.tree.order (table_contents now)) (sym is) (2, was.tree, order, subst (λ (m : Contents). IsClosed 2 file.pages file.tail was.tree m) same closed, count)
-
-pub ok_mapped : {E D : Type 0} (answer : Result (Unit {0}) E) (mapped : Result (Unit {0}) D) (P : Type 0) → is_ok mapped ≡ is_ok answer → OnOk answer P → OnOk mapped P
-ok_mapped (Ok x) (Ok y) P same known = known
-ok_mapped (Err e) (Ok y) P same known = absurd (cc)
-ok_mapped answer (Err e) P same known = tt
 
 pub kept_so : {D E : Type 0} (g : Ghosts D) (answer : Result (Unit {0}) E) (was now : TableView) (file : PageFile) (disk : D) → was.tree.order ≡ now.tree.order → table_contents was ≡ table_contents now → (g.seen disk).main ≡ file
     → IsClosed 2 file.pages file.tail was.tree (table_contents was) → OnOk answer (IsSettled g file disk) → OnOk answer (IsKeptWith g now.tree.order (table_contents now) disk)

@@ -1,7 +1,6 @@
 -- What a log says behind its first line, and what becomes of records that it is put over.
-use Rattle.std.proofs.Common.{◌≡◌, ◌≢◌, ◌⊎◌, ⊎_elim, inl, inr, ℕ, ◌<◌, Bool, true, false, List, [], ◌∷◌, ◌++◌, length, map, Option, Some, None, codes, refl, sym, ap, subst, ◌∙◌, arith, nat_eq, append_assoc}
+use Rattle.std.proofs.Common.{◌≡◌, ◌≢◌, ◌⊎◌, ⊎_elim, inl, inr, ℕ, ◌<◌, Bool, true, false, List, [], ◌∷◌, ◌++◌, length, map, Option, Some, None, codes, refl, sym, ap, subst, ◌∙◌, arith, nat_eq}
 use Rattle.std.proofs.lemmas.Bool.{false≢true}
-use Rattle.std.proofs.lemmas.List.Concat.{flat_map-append}
 use Rattle.std.specs.FinMap.{get}
 use Rattle.std.specs.List.{All}
 use Rattle.std.specs.Prelude.{slice_index_or}
@@ -18,8 +17,8 @@ use Rattle.command_text.specs.Units.{Write, unit_commands}
 use Rattle.command_text.specs.declared.command.Command.{Command}
 use Rattle.record_file.specs.Durable.{overlay}
 use Rattle.record_file.proofs.CommitLemmas.{overlay-again}
-use Rattle.recfile.specs.LogOver.{IsHead, IsLogOver, SayOver, keys_said, said_by, values_at}
-use Rattle.recfile.specs.Overlaid.{IsLogCommand, write_said, writes_said}
+use Rattle.recfile.specs.LogOver.{IsHead, IsLogOver, SayOver, said_by, values_at}
+use Rattle.recfile.specs.Overlaid.{IsLogCommand, writes_said}
 use Rattle.std.proofs.lemmas.List.{append-nil}
 use Rattle.recfile.proofs.LogLemmas.{log_said, unit_first, unit_logged}
 
@@ -64,16 +63,6 @@ by_keys m (e ∷ es) = ap (λ (vs : List (Option (List ℕ))). get m e.0 ∷ vs)
 values_append : (m : Contents) (es fs : List Write) → values_at m (es ++ fs) ≡ values_at m es ++ values_at m fs
 values_append m [] fs = refl
 values_append m (e ∷ es) fs = ap (λ (vs : List (Option (List ℕ))). get m e.0 ∷ vs) (values_append m es fs)
-
-pub values_on : (m : Contents) (whole items : List (Option (List ℕ))) (keys : List (List ℕ)) (first later all : List (Read Command)) → all ≡ first ++ later → keys_said first ≡ keys → items ++ values_at m (writes_said all) ≡ whole → (items ++ map (get m) keys) ++ values_at m (writes_said later) ≡ whole
-values_on m whole items keys first later all cut said was =
-    append_assoc items (map (get m) keys) (values_at m (writes_said later))
-    ∙ ap (λ (ks : List (List ℕ)). items ++ (map (get m) ks ++ values_at m (writes_said later))) (sym said)
-    ∙ ap (λ (vs : List (Option (List ℕ))). items ++ (vs ++ values_at m (writes_said later))) (sym (by_keys m (writes_said first)))
-    ∙ ap (λ (vs : List (Option (List ℕ))). items ++ vs) (sym (values_append m (writes_said first) (writes_said later)))
-    ∙ ap (λ (es : List Write). items ++ values_at m es) (sym (flat_map-append write_said first later))
-    ∙ ap (λ (es : List (Read Command)). items ++ values_at m (writes_said es)) (sym cut)
-    ∙ was
 
 abbrev first_of : List ℕ → List (List ℕ) → List ℕ
 first_of d [] = d

@@ -39,9 +39,6 @@ under f t none = at (tx_of f t) refl none
     at None is none = absurd (cc)
     at (Some tx) is none = in_tx tx tx.rollback is refl none
 
-open_under : (f : File) (t : ℕ) → Under f t → IsTrue (open_of f t)
-open_under f t u = ap is_some u.is
-
 -- an active transaction
 active_by : (f : File) (t : ℕ) → tx_refusal f t None ≡ None → IsTrue (open_of f t)
 active_by f t none = at (tx_of f t) none
@@ -169,31 +166,6 @@ ended_open old mid new tx (Ok more) answer whole is step ok later = after_going 
 ended_open old mid new tx (Err resume_faults.NoSuchTx) answer whole is step ok later = absurd (cc is)
 ended_open old mid new tx (Err resume_faults.NotRolling) answer whole is step ok later = still_active old mid new tx.0 answer step.0 step.1 ok later
 ended_open old mid new tx (Err (resume_faults.Stopped undone left cause)) answer whole is step ok later = absurd (cc is)
-
--- one that isn't open stays so
-pub not_open : (old new : File) (tx : TxId) (went_on : Result ℕ ResumeFault) → resumed tx went_on ≡ Ok false → Resumes old tx.0 went_on new → (open_of old tx.0 ≡ false) × (new ≡ old)
-not_open old new tx (Ok more) is step = absurd (cc is)
-not_open old new tx (Err resume_faults.NoSuchTx) is step = (at (tx_of old tx.0) step.0, step.1)
-  where
-    in_tx : (r : Option Rollback) → rolling_refusal (Some (rollback_phase r)) ≡ Some refusals.NoSuchTx → true ≡ false
-    in_tx None is = absurd (cc)
-    in_tx (Some r) is = absurd (cc)
-
-    at : (o : Option Tx) → rolling_refusal (option_map phase_of o) ≡ Some refusals.NoSuchTx → is_some o ≡ false
-    at None is = refl
-    at (Some found) is = in_tx found.rollback is
-not_open old new tx (Err resume_faults.NotRolling) is step = absurd (cc is)
-not_open old new tx (Err (resume_faults.Stopped undone left cause)) is step = absurd (cc is)
-
--- going on with a rollback was stopped
-pub stopped_going : (old new : File) (tx : TxId) (went_on : Result ℕ ResumeFault) (fault : EndFault) → resumed tx went_on ≡ Err fault → Resumes old tx.0 went_on new → StopsOne old fault new × (stopped_tx fault ≡ tx.0)
-stopped_going old new tx (Ok more) fault is step = absurd (cc is)
-stopped_going old new tx (Err resume_faults.NoSuchTx) fault is step = absurd (cc is)
-stopped_going old new tx (Err resume_faults.NotRolling) fault is step = absurd (cc is)
-stopped_going old new tx (Err (resume_faults.Stopped undone left cause)) fault is step = subst (λ (f : EndFault). StopsOne old f new × (stopped_tx f ≡ tx.0)) (fault_of is) (inl step, refl)
-  where
-    fault_of : ◌≡◌ {A = Result Bool EndFault} (Err (Stopped tx undone left cause)) (Err fault) → Stopped tx undone left cause ≡ fault
-    fault_of is = cc
 
 -- an abort was stopped
 pub stopped_abort : (old mid new : File) (tx : TxId) (went_on : Result ℕ ResumeFault) (answer : Result ℕ AbortFault) (fault : EndFault)

@@ -1,5 +1,5 @@
 -- A session over the table of a page file.
-use Rattle.std.proofs.Common.{◌≡◌, ◌≤◌, ℕ, Bool, true, false, List, [], Result, Ok, Err, MatchResult, IsTrue, if◌then◌else◌, refl, sym, ap, subst, ◌∙◌, arith}
+use Rattle.std.proofs.Common.{◌≡◌, ◌≤◌, ℕ, Bool, true, false, List, [], Result, Ok, MatchResult, IsTrue, if◌then◌else◌, refl, sym, ap, subst, ◌∙◌, arith}
 use Rattle.std.specs.FinMap as maps
 use Rattle.std.specs.FinMap.{len-empty}
 use Rattle.std.specs.Cmp.Lexicographic.{slice_cmp}
@@ -90,9 +90,6 @@ never_4 false false is = absurd (omega (arith, is))
 
 pub at_ok : {A F : Type 0} (answer : Result A F) (x : A) (P : A → Type 0) (Q : F → Type 0) → answer ≡ Ok x → MatchResult answer P Q → P x
 at_ok answer x P Q is known = subst (λ a. MatchResult a P Q) is known
-
-pub at_err : {A F : Type 0} (answer : Result A F) (x : F) (P : A → Type 0) (Q : F → Type 0) → answer ≡ Err x → MatchResult answer P Q → Q x
-at_err answer x P Q is known = subst (λ a. MatchResult a P Q) is known
 
 -- a closed file without records has a tree that counts none
 pub no_records : (version : ℕ) (pages : List (List ℕ)) (tail : ℕ) (tree : Tree) → IsClosed version pages tail tree maps.empty → tree.count ≡ 0

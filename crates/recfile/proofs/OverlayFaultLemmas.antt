@@ -10,8 +10,8 @@ use Rattle.rec_types.specs.declared.table.TableFault.TheVariants as tables
 use Rattle.command_text.specs.declared.command.Command.{Command}
 use Rattle.command_text.specs.declared.command.LineFault.{LineFault}
 use Rattle.command_text.specs.Grammar.{Read}
-use Rattle.recfile.specs.Beside.{IsOverlayFault, IsTableOutside, IsUnput}
-use Rattle.recfile.specs.FileFaults.{fault_of_listing, fault_of_overlay, is_file_device}
+use Rattle.recfile.specs.Beside.{IsOverlayFault, IsUnput}
+use Rattle.recfile.specs.FileFaults.{fault_of_overlay, is_file_device}
 use Rattle.recfile.specs.declared.file_fault.FileFault.{FileFault}
 use Rattle.recfile.specs.Overlaid.{IsLogCommand, line_entries}
 use Rattle.recfile.specs.declared.overlaying.OverlayFault.{OverlayFault}
@@ -38,12 +38,6 @@ device_of_overlay A tables.Memory = refl
 pub overlay_counts : {T A : Type 0} (t : Ghosts T) (old new : T) (fault : TableFault) → Answered {A = A} t old (Err fault) new → t.device_failures new ≡ counted (t.device_failures old) (is_file_device (fault_of_overlay (overlaying.Table fault)))
 overlay_counts {T} {A} t old new fault answered = answered.device ∙ ap (counted (t.device_failures old)) (device_of_overlay A fault)
 
-pub device_of_listing : (A : Type 0) (fault : TableFault) → table_device {A = A} (Err fault) ≡ is_file_device (fault_of_listing fault)
-device_of_listing A tables.Device = refl
-device_of_listing A (tables.Damaged page) = refl
-device_of_listing A tables.NoRoom = refl
-device_of_listing A tables.Memory = refl
-
 pub one_command : (said : Read (Option Command)) (c : Command) → said ≡ Ok (Some c) → All IsLogCommand (line_entries said) → IsLogCommand (Ok c)
 one_command said c is all = All-head IsLogCommand (Ok c) [] (subst (λ (s : Read (Option Command)). All IsLogCommand (line_entries s)) is all)
 
@@ -57,12 +51,6 @@ unput_fault Logged Over (overlaying.Table tables.Device) named is all why = inl 
 unput_fault Logged Over (overlaying.Table (tables.Damaged page)) named is all why = absurd (⊎_elim (λ o. ⊎_elim (λ e. absurd (cc e)) (λ e. absurd (cc e)) o) (λ e. absurd (cc e)) why)
 unput_fault Logged Over (overlaying.Table tables.NoRoom) named is all why = inl (inr is)
 unput_fault Logged Over (overlaying.Table tables.Memory) named is all why = inl (inl (inr is))
-
-pub outside_fault : (Over : Type 0) (fault : TableFault) (named : FileFault) → named ≡ fault_of_listing fault → IsTableOutside fault → IsUnput Over named
-outside_fault Over fault named is outside = ⊎_elim
-    (λ device. inl (inl (inl (is ∙ ap fault_of_listing device))))
-    (λ memory. inl (inl (inr (is ∙ ap fault_of_listing memory))))
-    outside
 
 -- of a part of a log
 pub unput_part : (Part Whole : Type 0) (fault : FileFault) → (Whole → Part) → IsUnput Part fault → IsUnput Whole fault

@@ -10,7 +10,7 @@ use Rattle.command_text.specs.Dump.{put_text}
 use Rattle.record_texts.specs.Forms.{before, between, behind, field_text, records_text}
 use Rattle.record_texts.specs.declared.form.Form.{Form}
 use Rattle.record_texts.specs.declared.form.Form.TheVariants.{Tsv, Csv, Json}
-use Rattle.recfile.specs.Dumped.{AreSaidIn, Dumps, IsPartWritten, text_in}
+use Rattle.recfile.specs.Dumped.{Dumps, IsPartWritten, text_in}
 use Rattle.recfile.specs.Spelled.{Records, SpellsLines, PartWritten, IsOfText, Took, Stops, head_in, line_in, lines_in, foot_in, part_longer}
 use Rattle.recfile.specs.declared.dump.DumpFault.{DumpFault}
 use Rattle.recfile.specs.declared.dump_text.DumpText.{DumpText}
@@ -65,40 +65,11 @@ front_of_part held holds text part =
       subst (λ (t : List ℕ). Appends held holds t) (sym (ap (take (length part.sent)) part.whole ∙ take_front part.sent (part.next ∷ part.rest))) part.written,
     )
 
--- one record, whose line waits or was sent
-pub took_one : (old new : DumpText) (held : Option (List ℕ)) (e : List ℕ × List ℕ) → new.form ≡ old.form → new.waiting.items ≡ old.waiting.items ++ line_in old.form e → AreSaidIn old.form (e ∷ []) → Took old held (e ∷ []) new held
-took_one old new held e form waits said = (
-  form,
-  record {
-    sent = [];
-    written = Appends-nil held;
-    text = waits ∙ ap (λ (t : List ℕ). old.waiting.items ++ t) (sym (lines_one old.form e));
-    said = said;
-  },
-)
-
-pub took_and_sent : (old mid new : DumpText) (held holds : Option (List ℕ)) (e : List ℕ × List ℕ) → new.form ≡ old.form → mid.waiting.items ≡ old.waiting.items ++ line_in old.form e → AreSaidIn old.form (e ∷ []) → new.waiting.items ≡ [] → Appends held holds mid.waiting.items → Took old held (e ∷ []) new holds
-took_and_sent old mid new held holds e form waits said none written = (
-  form,
-  record {
-    sent = mid.waiting.items;
-    written = written;
-    text = ap (λ (t : List ℕ). mid.waiting.items ++ t) none ∙ append-nil mid.waiting.items ∙ waits ∙ ap (λ (t : List ℕ). old.waiting.items ++ t) (sym (lines_one old.form e));
-    said = said;
-  },
-)
-
 pub stops_unspelled : (old : DumpText) (held : Option (List ℕ)) (e : List ℕ × List ℕ) (fault : DumpFault) → IsOfText fault → Stops old held (e ∷ []) fault held
 stops_unspelled old held e fault why =
     let line = line_some old.form e in
     let lines = ap length (lines_one old.form e) in
     (why, part_none held (old.waiting.items ++ lines_in old.form (e ∷ [])) (omega (arith, line, lines, length-append old.waiting.items (lines_in old.form (e ∷ [])))))
-
-pub stops_unsent : (old mid : DumpText) (held holds : Option (List ℕ)) (e : List ℕ × List ℕ) (fault : DumpFault) → IsOfText fault → mid.waiting.items ≡ old.waiting.items ++ line_in old.form e → PartWritten held holds mid.waiting.items → Stops old held (e ∷ []) fault holds
-stops_unsent old mid held holds e fault why waits part = (
-  why,
-  subst (PartWritten held holds) (waits ∙ ap (λ (t : List ℕ). old.waiting.items ++ t) (sym (lines_one old.form e))) part,
-)
 
 -- the whole text by its parts
 pub text_is : (form : Option Form) (es : Records) → (head_in form ++ lines_in form es) ++ foot_in form ≡ text_in form es

@@ -1,35 +1,14 @@
--- What a session writes to its store.
-use Rattle.std.proofs.Common.{◌≡◌, ℕ, ◌++◌, Bool, true, false, List, [], ◌∷◌, length, Option, Some, None, refl, sym, ap, subst, ◌∙◌, arith, append-nil, length-append, if◌then◌else◌}
+-- What closing a table writes to its store.
+use Rattle.std.proofs.Common.{◌≡◌, ℕ, ◌++◌, Bool, true, false, List, [], ◌∷◌, length, Option, Some, None, refl, sym, ap, ◌∙◌, arith, append-nil, length-append, if◌then◌else◌}
 use Rattle.page_store.specs.Journal.{Journal, noted_steps, writing_back}
 use Rattle.page_store.specs.PagesView.{memory_pages}
-use Rattle.page_store.specs.StoreCalls.{StaysStore}
 use Rattle.page_store.specs.declared.step.Step.{Step}
 use Rattle.page_store.specs.declared.step.Step.TheVariants.{SetPages, Write, Sync}
-use Rattle.page_store.specs.declared.store_state.StoreState.{Ghosts}
 use Rattle.btree_node.specs.HeaderSpelling.{header_spelling, clean_state, writing_state}
 use Rattle.btree_delete.specs.Closing.{header_of, closing}
-use Rattle.btree_delete.specs.Origins.{Origin, opened_in, origin_of}
 use Rattle.btree_delete.specs.TableView.{TableView}
-use Rattle.recfile.specs.StoreSession.{WritesBack}
+use Rattle.recfile.specs.StoreWrites.{WritesBack}
 use Rattle.recfile.specs.declared.file_fault.FileFault.{FileFault}
-
--- a writing back over a journal by another name
-pub written_over : (old was new : Option Journal) (table : TableView) (unclosed : Option FileFault) → was ≡ old → WritesBack was table unclosed new → WritesBack old table unclosed new
-written_over old was new table unclosed same known = subst (λ (j : Option Journal). WritesBack j table unclosed new) same known
-
--- a store that was given up stays as its table was made
-pub stays_by : {S : Type 0} (g : Ghosts S) (order limit : ℕ) (store given : S) (table : TableView) → origin_of table ≡ opened_in g order limit store
-    → g.pages given ≡ table.pages.stored → g.tail given ≡ table.pages.tail → g.steady given ≡ table.pages.steady → g.opening given ≡ table.pages.opening → g.writes given ≡ table.pages.writes → g.journal given ≡ table.pages.journal → g.guard given ≡ table.pages.guard
-    → StaysStore g store given
-stays_by g order limit store given table made pages tail steady opening writes journal guard = record {
-  pages = pages ∙ ap (λ (o : Origin). o.stored) made;
-  tail = tail ∙ ap (λ (o : Origin). o.tail) made;
-  steady = steady ∙ ap (λ (o : Origin). o.steady) made;
-  opening = opening ∙ ap (λ (o : Origin). o.opening) made;
-  writes = writes ∙ ap (λ (o : Origin). o.writes) made;
-  journal = journal ∙ ap (λ (o : Origin). o.journal) made;
-  guard = guard ∙ ap (λ (o : Origin). o.guard) made;
-}
 
 -- the steps of a journal
 abbrev steps_in : Option Journal → List Step

@@ -17,8 +17,6 @@ use Rattle.btree_delete.specs.declared.opening.open_fault.OpenFault.{OpenFault}
 use Rattle.btree_delete.specs.declared.opening.open_fault.OpenFault.TheVariants as opening
 use Rattle.btree_delete.specs.declared.table.tree_table.CreateFault.{CreateFault}
 use Rattle.btree_delete.specs.declared.table.tree_table.CreateFault.TheVariants as making
-use Rattle.btree_load.specs.declared.fault.FillFault.{FillFault}
-use Rattle.btree_load.specs.declared.fault.FillFault.TheVariants as filling
 use Rattle.recfile.specs.declared.copying.CopyingFault.{CopyingFault}
 use Rattle.recfile.specs.declared.copying.CopyingFault.TheVariants.{OfFile, OfCopy}
 use Rattle.recfile.specs.declared.overlaying.OverlayFault.{OverlayFault}
@@ -29,10 +27,6 @@ use Rattle.recfile.specs.declared.file_fault.FileFault.TheVariants.{Device, NotE
 abbrev pub fault_of_store : StoreFault → FileFault
 fault_of_store storing.Failed = Device
 fault_of_store storing.Memory = Memory
-
-abbrev pub fault_of_filling : FillFault → FileFault
-fault_of_filling filling.Device = Device
-fault_of_filling filling.Memory = Memory
 
 abbrev pub fault_of_recovery : RecoveryFault → FileFault
 fault_of_recovery recovering.Device = Device
@@ -121,8 +115,3 @@ abbrev pub fault_of_copying : CopyFault → CopyingFault
 fault_of_copying copying.Source = OfFile Device
 fault_of_copying copying.Length = OfFile BadLength
 fault_of_copying (copying.Copy fault) = OfCopy (fault_of_store fault)
-
--- its name, of either file
-abbrev pub name_of : CopyingFault → FileFault
-name_of (OfFile fault) = fault
-name_of (OfCopy fault) = fault

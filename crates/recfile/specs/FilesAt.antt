@@ -20,7 +20,7 @@ use Rattle.recfile.specs.Flushing.{InARow}
 use Rattle.recfile.specs.FileFaults.{IsMakingFault, fault_of_copying, is_file_device}
 use Rattle.recfile.specs.Kept.{ClosesSafely, IsOutsideDisk, IsUnopened, LeavesAs, LeavesOld, RunsOn}
 use Rattle.recfile.specs.Settling.{SettlesAt}
-use Rattle.recfile.specs.StoreSession.{MakesIn}
+use Rattle.recfile.specs.StoreWrites.{MakesIn}
 use Rattle.recfile.specs.Streams.{CallsMade}
 use Rattle.recfile.specs.TreeLine.{counts_in, counts_line}
 use Rattle.recfile.specs.WholeSession.{EndsFile, opened_file}

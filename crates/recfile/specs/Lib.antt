@@ -21,7 +21,7 @@ pub mod Statuses
 pub mod Streams
 pub mod TreeLine
 pub mod Settling
-pub mod StoreSession
+pub mod StoreWrites
 pub mod Flushing
 pub mod FilesAt
 pub mod Tasks

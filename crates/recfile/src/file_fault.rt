@@ -1,6 +1,5 @@
 use crate::overlaying::OverlayFault;
 use btree_delete::{CreateFault, OpenFault};
-use btree_load::FillFault;
 use page_journal::{OpeningFault, RecoveryFault};
 use page_store::{StoreFault, WriteFault};
 use rec_types::TableFault;
@@ -50,20 +49,6 @@ impl From<StoreFault> for FileFault {
         match fault {
             StoreFault::Failed => FileFault::Device,
             StoreFault::Memory => FileFault::Memory,
-        }
-    }
-}
-
-impl From<FillFault> for FileFault {
-    ghost use Rattle.std.specs.Prelude.{◌≡◌};
-    ghost use Rattle.recfile.specs.FileFaults.{fault_of_filling};
-
-    ghost from_gives = { λ fault named. named ≡ fault_of_filling fault };
-
-    fn from(fault: FillFault) -> FileFault {
-        match fault {
-            FillFault::Device => FileFault::Device,
-            FillFault::Memory => FileFault::Memory,
         }
     }
 }

@@ -28,7 +28,7 @@ ghost use Rattle.recfile.specs.DurableSession.{AreFirstCommits, EndsDurably};
 ghost use Rattle.record_texts.specs.declared.form.Form.TheVariants.{Tsv};
 ghost use Rattle.recfile.specs.Dumped.{ReadingStops};
 ghost use Rattle.recfile.specs.Ending.{EndsAll, without};
-ghost use Rattle.recfile.specs.Flushing.{Flushes, SessionPoint};
+ghost use Rattle.recfile.specs.Flushing.{BeginsNone, Flushes, InARow, SessionPoint, flush_reply};
 ghost use Rattle.recfile.specs.Examples.{four_changes, two_taken_back};
 ghost use Rattle.recfile.specs.Kept.{ClosesSafely, CountsClosing, HasRecords, IsKeptWith, LeavesEither};
 ghost use Rattle.recfile.specs.LogOver.{Finds, HoldsRecords, HoldsWithin, IsHead, IsLogOver};
@@ -39,7 +39,7 @@ ghost use Rattle.recfile.specs.SessionCommits.{IsInDoubt, MakesCommits, in_doubt
 ghost use Rattle.recfile.specs.Settling.{FindsAny, PutsRight};
 ghost use Rattle.recfile.specs.Shell.{StopsAtFlush};
 ghost use Rattle.recfile.specs.Spelled.{SpellsLines};
-ghost use Rattle.recfile.specs.StoreSession.{WritesBack};
+ghost use Rattle.recfile.specs.StoreWrites.{WritesBack};
 ghost use Rattle.recfile.specs.Streams.{CallsMade, TellsFailed, no_call, run_read_fault, run_write_fault};
 ghost use Rattle.recfile.specs.Tasks.{IsDump, WritesListed};
 ghost use Rattle.recfile.specs.WholeSession.{EndsFile, IsSession, RunsFile};
@@ -312,6 +312,28 @@ pub fn flushes_by_example()
         → (goes.session.session steady order contents holds).made.kept ≡ es ∷ []
         → overlay contents es ≢ contents
         → HoldsWithin limits.records order contents (recovered new.disk.first) → ⊥ }
+{}
+
+/// What no end of durable sessions in a row does. Where none begins after a flush, its file was closed, no more of the lines
+/// was read, and the whole reply was written only where the disk failed then; the status isn't 0, nor is it where the last
+/// session found no file to open.
+pub fn rows_by_example()
+    ensures example { (closed : SessionPoint History) → BeginsNone ⟦<MemDisk as DiskState>⟧ closed
+        (record closed { calls = record closed.calls { write_failed = true } }) None None 3 }
+    ensures replied { (closed new : SessionPoint History) (unclosed : Option FileFault) (status : ℕ)
+        → closed.held ≡ Some [] → new.held ≡ Some flush_reply
+        → BeginsNone ⟦<MemDisk as DiskState>⟧ closed new None unclosed status → ⊥ }
+    ensures read_on { (closed new : SessionPoint History) (unopened unclosed : Option FileFault)
+        (status : ℕ) → new.left ≢ closed.left
+        → BeginsNone ⟦<MemDisk as DiskState>⟧ closed new unopened unclosed status → ⊥ }
+    ensures not_closed { (closed new : SessionPoint History) (unopened : Option FileFault)
+        (fault : FileFault) (status : ℕ)
+        → BeginsNone ⟦<MemDisk as DiskState>⟧ closed new unopened (Some fault) status → ⊥ }
+    ensures ends_well { (closed new : SessionPoint History) (unopened unclosed : Option FileFault)
+        → BeginsNone ⟦<MemDisk as DiskState>⟧ closed new unopened unclosed 0 → ⊥ }
+    ensures unopened_row { (manner : Manner) (limits : Bounds) (old new : SessionPoint History)
+        (fault : FileFault) (unclosed : Option FileFault)
+        → InARow ⟦<MemDisk as DiskState>⟧ manner limits old new (Some fault) unclosed 0 → ⊥ }
 {}
 
 /// What puts no page file right, by disks in memory. Where an opening finds records in the old files, the file doesn't have

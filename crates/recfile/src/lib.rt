@@ -53,7 +53,7 @@ pub use kept_file::{DiskEnd, run_kept};
 pub use log_keeper::LogKeeper;
 pub use manner::{Feed, Manner};
 pub use overlaying::{OverlayFault, overlay_text};
-pub use page_file::{FileEnd, check_in, create_in, run_in};
+pub use page_file::{check_in, create_in};
 pub use page_files::PageFiles;
 pub use program::run_words;
 pub use screen::Screen;

@@ -36,7 +36,7 @@ fn create<P: PageFiles>(files: &P, alloc: Global, order: u16, path: &str) -> Res
     files.settle(alloc, path, &store, made)
 }
 
-// TellsOfFile of the tree of the page file at a path.
+// Tells of the tree of the page file at a path.
 fn check<P: PageFiles, W: Write>(
     files: &P,
     alloc: Global,
@@ -194,7 +194,7 @@ fn show<W: Write, E: Write>(fault: UsageFault, out: &mut W, err: &mut E) -> u8
     }
 }
 
-// DoesTask a task, and answers the status.
+// Does a task, and answers the status.
 fn run_task<L: Ledger, P: PageFiles, R: Read, W: Write, E: Screen>(
     files: &P,
     alloc: Global,
@@ -252,7 +252,7 @@ fn run_task<L: Ledger, P: PageFiles, R: Read, W: Write, E: Screen>(
     }
 }
 
-/// DoesTask what the words ask for, of which the first is the program's name, and answers the status: that of
+/// Does what the words ask for, of which the first is the program's name, and answers the status: that of
 /// `exit_status`, or 2 where the words can't be read. Faults have their lines on `err`. A session has its lines and its
 /// replies by calls that are counted, and so has the script of a load; no other task has.
 ///

@@ -155,7 +155,7 @@ impl From<&Option<Record>> for Found {
 }
 
 impl Found {
-    // ShowsEntry a record in the place of what was shown.
+    // Shows a record in the place of what was shown.
     fn show(&mut self, value: &Record)
         ensures { shown self.new ≡ Some value.now }
     {
@@ -165,7 +165,7 @@ impl Found {
         self.is_there = 1;
     }
 
-    /// ShowsEntry the record that an answer found, where nothing was shown.
+    /// Shows the record that an answer found, where nothing was shown.
     pub(crate) fn show_found<E>(&mut self, answer: &Result<Option<Record>, E>)
         requires { shown self.old ≡ None }
         ensures { shown self.new ≡ found_in answer.now }
@@ -175,7 +175,7 @@ impl Found {
         }
     }
 
-    /// ShowsEntry the record that an answer took out, where nothing was shown.
+    /// Shows the record that an answer took out, where nothing was shown.
     pub(crate) fn show_taken<E>(&mut self, answer: &Result<Record, E>)
         requires { shown self.old ≡ None }
         ensures { shown self.new ≡ taken_in answer.now }

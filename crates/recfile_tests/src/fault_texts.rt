@@ -287,7 +287,7 @@ const FETCH_FAULTS: [(FetchFault, &str); 2] = [
 ];
 
 const WRITE_FAULTS: [(WriteFault, &str); 2] = [
-    (WriteFault::Device, "a write to the store failed"),
+    (WriteFault::Device, "a call of the store failed"),
     (WriteFault::Memory, "out of memory"),
 ];
 

@@ -1,6 +1,5 @@
 -- What a change, and taking one back, do to the file that a log and a table stand for.
-use Rattle.std.proofs.Common.{◌≡◌, ℕ, ◌+◌, ◌≤◌, ◌<◌, Bool, true, false, cond, not, ◌&&◌, ◌||◌, nat_lt, List, [], ◌∷◌, ◌++◌, Option, Some, None, option_map, is_some, refl, sym, ap, subst, ◌∙◌, IsTrue, arith}
-use Rattle.std.proofs.lemmas.Bool.Decides.{nat_tests}
+use Rattle.std.proofs.Common.{◌≡◌, ℕ, ◌+◌, ◌≤◌, ◌<◌, Bool, true, false, cond, ◌&&◌, ◌||◌, List, [], ◌∷◌, ◌++◌, Option, Some, None, option_map, is_some, refl, sym, ap, subst, ◌∙◌, IsTrue, arith}
 use Rattle.std.specs.FinMap.{get, len}
 use Rattle.rec_types.specs.Contents.{Contents, set_to, write_to, same_key, has}
 use Rattle.rec_types.specs.History.{Change, applied, replay, undo_last}
@@ -189,15 +188,6 @@ put_has_room is_open cs m limit x within room keys_absent full = at (has (charge
     at : (there : Bool) → has (charged is_open (history_of cs) m) x ≡ there → ⊥
     at true is = absurd (omega (arith, room_for m (charged is_open (history_of cs) m) x (records_within is_open (history_of cs) m) is (ap is_some keys_absent)))
     at false is = absurd (omega (arith, len-within m (charged is_open (history_of cs) m) (records_within is_open (history_of cs) m), room is))
-
--- the log is full where it can't accept a change
-pub full_is : (accepts : Bool) (used limit : ℕ) → (IsTrue accepts → used + 2 ≤ limit) × (used + 2 ≤ limit → IsTrue accepts) → not accepts ≡ nat_lt limit (used + 2)
-full_is true used limit means = let fits = means.0 refl in grind (arith, nat_tests)
-full_is false used limit means = at (nat_lt limit (used + 2)) refl
-  where
-    at : (b : Bool) → nat_lt limit (used + 2) ≡ b → true ≡ nat_lt limit (used + 2)
-    at true is = sym is
-    at false is = absurd (cc (means.1 (grind (arith, nat_tests))))
 
 -- the records and the absent keys are the charged ones
 pub charged_count : (log : LogState) (m : Contents) (n a : ℕ) → Fits log.changes m → IsLog log → n ≡ len m → a ≡ len (keys_absent (open_in log) log.changes) → n + a ≡ len (charged_of (file_of log m))

@@ -23,6 +23,7 @@ pub mod FirstStepLemmas
 pub mod RemainingRunLemmas
 pub mod CallStepLemmas
 pub mod MadeLemmas
+pub mod RefusalLemmas
 pub mod ExactLemmas
 pub mod CompensatedOnceLemmas
 pub mod AskedLemmas

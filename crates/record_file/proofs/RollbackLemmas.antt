@@ -81,15 +81,6 @@ rolled_all f now new t n total rolling is total_is le after = (
       ∙ ap (λ (m : Contents). let g : File = record f { opening = m; history = take_back f.history t (rolling_place (tx_of f t)); txs = finished f.txs t (tx_of f t) } in g) (sym (ap (λ (g : File). g.opening) after)),
 )
 
--- the rollback stops
-pub rolled_stop : (f now new : File) (t n total : ℕ) → IsRolling (phase_at f t) → now ≡ rolled f t n now.opening → new ≡ now → total ≡ left_in f.history t (tx_of f t) → n < total
-    → StopsAt f t (rolling_place (tx_of f t)) f.txs n (total - n) new
-rolled_stop f now new t n total rolling is same total_is lt = (
-  subst (λ k. n < k) (total_is ∙ left-rolling f.history t (tx_of f t) rolling) lt,
-  ap (λ k. k - n) (total_is ∙ left-rolling f.history t (tx_of f t) rolling),
-  same ∙ is ∙ ap (rolled f t n) (sym (ap (λ (g : File). g.opening) same)),
-)
-
 -- the file after a rollback to savepoint n has started
 abbrev pub started : File → ℕ → ℕ → Bool → File
 started f t n ends = record f { txs = maps.insert f.txs t (rolling_to (places_at f t) n ends) }

@@ -12,5 +12,6 @@ pub mod Leads
 pub mod Calls
 pub mod Durable
 pub mod Exact
+pub mod Examples
 pub mod Asked
 pub mod Resumed

@@ -33,10 +33,10 @@ use Rattle.record_file.specs.declared.fault.ChangesFault.{ChangesFault}
 use Rattle.record_file.specs.declared.fault.ChangesFault.TheVariants as changes_faults
 use Rattle.record_file.specs.declared.fault.StatusFault.{StatusFault}
 use Rattle.record_file.specs.declared.fault.StatusFault.TheVariants as status_faults
-use Rattle.record_file.specs.declared.file.refusals.LookRefusal.{LookRefusal}
-use Rattle.record_file.specs.declared.file.refusals.LookRefusal.TheVariants as look_refusals
-use Rattle.record_file.specs.declared.file.refusals.ChangeRefusal.{ChangeRefusal}
-use Rattle.record_file.specs.declared.file.refusals.ChangeRefusal.TheVariants as change_refusals
+use Rattle.tx_log.specs.declared.refusal.LookRefusal.{LookRefusal}
+use Rattle.tx_log.specs.declared.refusal.LookRefusal.TheVariants as look_refusals
+use Rattle.tx_log.specs.declared.refusal.ChangeRefusal.{ChangeRefusal}
+use Rattle.tx_log.specs.declared.refusal.ChangeRefusal.TheVariants as change_refusals
 use Rattle.record_file.specs.declared.refusal.Refusal.{Refusal}
 use Rattle.record_file.specs.declared.refusal.Refusal.TheVariants as refusals
 
@@ -128,7 +128,7 @@ changes_refusal changes_faults.Memory = refusals.Failed causes.Memory
 abbrev pub status_refusal : StatusFault → Refusal
 status_refusal status_faults.NoSuchTx = refusals.NoSuchTx
 
--- what the file alone refuses a call at a key for, before the call tells of it
+-- what the log refuses a call at a key for, before the call tells of it
 
 abbrev pub look_refusal : LookRefusal → Refusal
 look_refusal look_refusals.NoSuchTx = refusals.NoSuchTx

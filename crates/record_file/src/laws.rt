@@ -15,6 +15,8 @@ ghost use Rattle.record_file.specs.Abstract.{File, held_by, new_file, open_of, p
 ghost use Rattle.tx_log.specs.Written.{writes};
 ghost use Rattle.record_file.specs.Durable.{CommitsKept, Keeps, committed, overlay};
 ghost use Rattle.record_file.specs.Exact.{IsExact, CompensatesOnce, one};
+ghost use Rattle.record_file.specs.Examples.{owned_at_a, entries_at_a_and_b};
+ghost use Rattle.record_file.specs.OwnedRecords.{GoesTo};
 ghost use Rattle.record_file.specs.Resumed.{StopsFirst, Finishes, TakesWhole, CompensatesTake};
 ghost use Rattle.record_file.specs.Remaining.{NothingFails, remaining};
 ghost use Rattle.record_file.specs.Undo.{Starts, old_records, quiet, wrote, claimed};
@@ -173,6 +175,29 @@ pub fn entries_tell_owners()
         → TellOwners f (record { key = x; value = r; owner = Some (record { 0 = t }) } ∷ []) }
     ensures free { (f : File) (t : ℕ) (x r : List ℕ) → owner_of (open_of f) f.history x ≡ Some t
         → TellOwners f (record { key = x; value = r; owner = None } ∷ []) → ⊥ }
+{}
+
+/// A list of two entries that went to a sink, by example: the sink took both, or it stopped with a fault of its own, which is
+/// the answer; where a device failed there is no list, and the sink took some entries. A sink that took the first entry alone
+/// didn't take the list. A fault of the sink isn't answered as another one; and one of the call is neither made up, nor
+/// answered as another one, nor left out.
+pub fn lists_told_by_example()
+    ensures whole { GoesTo {F = ℕ} (λ es. es ≡ entries_at_a_and_b) (λ _ _. ⊥)
+        (Ok entries_at_a_and_b) (Ok (Ok tt)) }
+    ensures stopped { GoesTo {F = ℕ} (λ _. ⊥) (λ es fault. (es ≡ entries_at_a_and_b) × (fault ≡ 7))
+        (Ok entries_at_a_and_b) (Ok (Err 7)) }
+    ensures fault { GoesTo {F = ℕ} (λ es. es ≡ owned_at_a ∷ []) (λ _ _. ⊥)
+        (Err entries_faults.Device) (Err entries_faults.Device) }
+    ensures first_alone { GoesTo {F = ℕ} (λ es. es ≡ owned_at_a ∷ []) (λ _ _. ⊥)
+        (Ok entries_at_a_and_b) (Ok (Ok tt)) → ⊥ }
+    ensures other_stop { GoesTo {F = ℕ} (λ _. ⊥) (λ es fault. (es ≡ entries_at_a_and_b) × (fault ≡ 7))
+        (Ok entries_at_a_and_b) (Ok (Err 8)) → ⊥ }
+    ensures made_up { GoesTo {F = ℕ} (λ es. es ≡ entries_at_a_and_b) (λ _ _. ⊥)
+        (Ok entries_at_a_and_b) (Err entries_faults.Device) → ⊥ }
+    ensures other_fault { GoesTo {F = ℕ} (λ es. es ≡ owned_at_a ∷ []) (λ _ _. ⊥)
+        (Err entries_faults.Device) (Err entries_faults.Memory) → ⊥ }
+    ensures left_out { GoesTo {F = ℕ} (λ es. es ≡ entries_at_a_and_b) (λ _ _. ⊥)
+        (Err entries_faults.Device) (Ok (Ok tt)) → ⊥ }
 {}
 
 /// No two faults of a call are the same refusal, so a refusal tells which fault a call has.

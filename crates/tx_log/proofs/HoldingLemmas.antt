@@ -17,7 +17,7 @@ use Rattle.tx_log.specs.Owners.{owner_of, other_than, says}
 use Rattle.tx_log.specs.Walks.{is_at, is_out, absent_at}
 use Rattle.tx_log.specs.declared.holding.Holding.{Holding}
 use Rattle.tx_log.specs.declared.log_record.LogRecord.{LogRecord}
-use Rattle.rec_types.proofs.ContentsLemmas.{same_key-is, same_key-sym, same_key-of}
+use Rattle.rec_types.proofs.ContentsLemmas.{same_key-is, same_key-of}
 
 -- two tests of keys are one
 pub same_bytes-key : (a b : List ℕ) → same_bytes a b ≡ same_key a b
@@ -66,9 +66,6 @@ any_counted k (u ∷ us) = any_case (is_at k u) (any_counted k us)
 
 find_live : (t : ℕ) (rs : List LogRecord) (k : List ℕ) → find (kept_at k) (lives t (kept_of rs)) ≡ option_map noted (find (is_at k) (stack t rs))
 find_live t rs k = ap (find (kept_at k)) (sym (stack_is_lives t rs)) ∙ find_noted k (stack t rs)
-
-mine_case : (t : ℕ) (h : Holding) → live_held t (Some h) ≡ cond (eqb h.owner.0 t) h.live 0
-mine_case t h = refl
 
 own_live : (h : Holding) → live_held h.owner.0 (Some h) ≡ h.live
 own_live h = ap (λ (b : Bool). cond b h.live 0) (eq-eqb h.owner.0 h.owner.0 refl)
@@ -209,9 +206,6 @@ other_absent h t u mine idle_here apart = other_case h.live refl (eqb h.owner.0 
     other_case n f false g = refl
     other_case zero f true g = idle_here f
     other_case (suc n) f true g = absurd (let no : true ≡ false = sym (eq-eqb t u (sym (mine (omega arith)) ∙ same_number h.owner.0 u g)) ∙ apart in cc)
-
-at_itself : (k q : List ℕ) (b : Bool) → same_key k q ≡ b → same_key q k ≡ b
-at_itself k q b f = same_key-sym q k ∙ f
 
 -- a change elsewhere leaves whether a key is out
 pub absent_past : (q : List ℕ) (u : LogRecord) (us : List LogRecord) → is_at q u ≡ false → absent_at q (u ∷ us) ≡ absent_at q us

@@ -75,15 +75,6 @@ key_read m k i d s value = s.there ∙ ap Some (sym (value_there m.entries i k s
 pub key_write : {S : Type 0} (m : IndexMap (List ℕ) Holding S) (k : List ℕ) (i : ℕ) (w : Holding) → HeldAt m k i → Places (holdings_in m) (holdings_in (with_value_at m i w)) k (Some w)
 key_write m k i w s = (updates-with_value_at m i w same_bytes-equiv s.unique k s.hold s.entry).0
 
--- what is taken out there is the key
-pub key_taken : {S : Type 0} (m n : IndexMap (List ℕ) Holding S) (k : List ℕ) (i : ℕ) (p : List ℕ × Holding) → HeldAt m k i → slice_get m.entries i ≡ Some p → Updates same_bytes m n p.0 None → Places (holdings_in m) (holdings_in n) k None
-key_taken m n k i p s at updates =
-    let same : (k, s.hold) ≡ p = some_is (sym s.entry ∙ at) in
-    λ q. updates.0 q ∙ ap (λ (x : List ℕ × Holding). cond (same_bytes x.0 q) None (holdings_in m q)) (sym same)
-  where
-    some_is : {x y : List ℕ × Holding} → Some x ≡ Some y → x ≡ y
-    some_is h = cc
-
 -- a key without a live change is taken out
 pub idle_taken : {S : Type 0} (m n : IndexMap (List ℕ) Holding S) (k y : List ℕ) (i j : ℕ) (h : Holding) (r : Option (List ℕ × Holding)) → slice_get m.entries i ≡ Some (y, h) → i ≡ j → Some y ≡ lookup_key (same_bytes k) m.entries → Some h ≡ holdings_in m k → h.live ≡ 0 → r ≡ slice_get m.entries j → IfSome r (λ p. Updates same_bytes m n p.0 None) → Places (holdings_in m) (holdings_in n) k (busy (holdings_in m k))
 idle_taken m n k y i j h r at places key value none taken updates =

@@ -1,8 +1,8 @@
 -- A record of the log by its number.
 use Rattle.std.proofs.Common.{Bool, true, false, cond, eqb, Some, ◌≡◌, ℕ, zero, suc, ◌+◌, ◌-◌, ◌<◌, ◌≤◌, List, [], ◌∷◌, ◌++◌, length, get_or, take, drop, reverse, refl, sym, ap, subst, ◌∙◌, arith, append_assoc, add-one}
-use Rattle.std.proofs.lemmas.List.{reverse-append, reverse-reverse, length-reverse, length-take-le, take-append-drop}
+use Rattle.std.proofs.lemmas.List.{reverse-append, reverse-reverse, length-reverse, take-append-drop}
 use Rattle.std.proofs.Math.Seq.{drop-cons}
-use Rattle.tx_log.proofs.Chains.{chain-skip, chain-found, numbered-part}
+use Rattle.tx_log.proofs.Chains.{chain-skip, numbered-part}
 use Rattle.std.specs.List.{slice_get}
 use Rattle.tx_log.specs.Log.{lsn_of, prev_of, leads_to, led, tells_change, chain, record_at, IsNumbered}
 use Rattle.tx_log.specs.Transactions.{place_of_savepoint}
@@ -31,24 +31,6 @@ pub record IsRecordAt (log : List LogRecord) (at : ℕ) (r : LogRecord) : Type 0
   pub prev : prev_of r < at
   pub leads : leads_to r < at
   pub chain_is : chain (reverse log) at ≡ led (tells_change r) r (chain (reverse log) (leads_to r))
-
--- what is read at a place of a numbered log is the record of that number
-pub record_is_at : (log : List LogRecord) (at : ℕ) (d r : LogRecord) → IsNumbered (reverse log) → 0 < at → at ≤ length log → get_or log (at - 1) d ≡ r → IsRecordAt log at r
-record_is_at log at d r is some within read =
-    let n = at - 1 in
-    let newer = reverse (drop (n + 1) log) in
-    let older = reverse (take n log) in
-    let cut = cut_at log n d r (omega arith) read in
-    let there = subst IsNumbered cut is in
-    let part = numbered-part newer r older there in
-    let many : length older ≡ n = length-reverse (take n log) ∙ length-take-le n log (omega arith) in
-    let P : List LogRecord → Type 0 = λ rs. chain rs at ≡ led (tells_change r) r (chain rs (leads_to r)) in
-    record {
-      lsn = omega (arith, part.0, many);
-      prev = omega (arith, part.1, many);
-      leads = omega (arith, part.2, many);
-      chain_is = subst P (sym cut) (chain-found newer r older at there (omega (arith, part.0, many)));
-    }
 
 -- the chain below the log is empty
 pub chain-zero : (rs : List LogRecord) → IsNumbered rs → chain rs 0 ≡ []

@@ -136,14 +136,6 @@ fit_case rs n ss m t q w (Some e) h new old false f = h q e f old
 pub fit-put : (rs : List LogRecord) (n : ℕ) (ss : List LogRecord) (m t : ℕ) (old new : Txs) (w : Option OpenTx) → Others rs n ss m t → PutsAt old new t w → IfSome w (FitsTx ss m t) → AllFit rs n old → AllFit ss m new
 fit-put rs n ss m t old new w h puts fits fit = λ q. subst (λ (o : Option OpenTx). IfSome o (FitsTx ss m q)) (sym (puts q)) (fit_case rs n ss m t q w (old q) h fits (fit q) (eqb t q) refl)
 
--- a number above those begun isn't open
-pub not_begun : (rs : List LogRecord) (n t : ℕ) (txs : Txs) → AllFit rs n txs → n < t → txs t ≡ None
-not_begun rs n t txs fit up = begun_case (txs t) (fit t)
-  where
-    begun_case : (o : Option OpenTx) → IfSome o (FitsTx rs n t) → o ≡ None
-    begun_case None fits = refl
-    begun_case (Some e) fits = absurd (let low = fits.begun in omega arith)
-
 -- a transaction that is open was begun
 pub begun_of : (rs : List LogRecord) (n t : ℕ) (txs : Txs) → AllFit rs n txs → opens txs t ≡ true → (0 < t) × (t ≤ n)
 begun_of rs n t txs fit h = begun_case (txs t) (fit t) h

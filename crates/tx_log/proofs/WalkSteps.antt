@@ -80,10 +80,6 @@ none_left : (us : List LogRecord) → newest_in us ≡ None → us ≡ []
 none_left [] e = refl
 none_left (u ∷ us) e = absurd (cc)
 
--- where none is read, the chain has ended
-pub walk_end : (rs : List LogRecord) (at : ℕ) → newest_in (chain rs at) ≡ None → chain rs at ≡ []
-walk_end rs at e = none_left (chain rs at) e
-
 -- ---- nothing on the way down from s is above s
 
 not_after : (m n : ℕ) → n ≤ m → ltb m n ≡ false

@@ -1,6 +1,9 @@
 -- Logs by example.
-use Rattle.std.specs.Prelude.{ℕ, List, [], ◌∷◌, Some, None}
+use Rattle.std.specs.Prelude.{ℕ, true, List, [], ◌∷◌, Some, None}
+use Rattle.std.specs.FinMap as maps
 use Rattle.rec_types.specs.declared.transaction.TxId.{TxId}
+use Rattle.tx_log.specs.LogState.{LogState, rolling_to}
+use Rattle.tx_log.specs.Transactions.{fresh}
 use Rattle.tx_log.specs.declared.log_record.LogRecord.{LogRecord}
 use Rattle.tx_log.specs.declared.log_record.LogRecord.TheVariants.{Update, Compensation, Claim, Unclaim}
 
@@ -37,3 +40,15 @@ nine =
     ∷ Unclaim 8 7 one (byte 98) 2
     ∷ Unclaim 9 8 one (byte 97) 1
     ∷ []
+
+-- Three transactions: the first has written a, the second is being rolled back, and the third has written nothing. The log
+-- may have n records.
+abbrev pub with_a_written : ℕ → LogState
+with_a_written n = record {
+  records = Update 1 0 one (byte 97) None (Some (byte 49)) ∷ [];
+  changes = record { lsn = 1; tx = 1; key = byte 97; before = None; after = Some (Some (byte 49)); live = true } ∷ [];
+  txs = maps.insert (maps.insert (maps.insert maps.empty 1 fresh) 2 (rolling_to [] 0 true)) 3 fresh;
+  begun = 3;
+  limits = record { records = 9; log_records = n; begins = 9 };
+  room = None;
+}

@@ -6,6 +6,7 @@ pub mod Log
 pub mod LogCode
 pub mod LogFields
 pub mod LogLaws
+pub mod LogRefusals
 pub mod LogState
 pub mod Owners
 pub mod Places

@@ -1,11 +1,13 @@
 ghost use Rattle.std.specs.Prelude.{◌≡◌, ℕ, ◌≤◌, Bool, true, false, List, [], ◌∷◌, Some, None, map, reverse, take};
 ghost use Rattle.rec_types.specs.History.{Change, undo_last, take_back, take_newest, log_use};
-ghost use Rattle.tx_log.specs.Examples.{eight, nine, one, byte};
+ghost use Rattle.tx_log.specs.Examples.{eight, nine, one, byte, with_a_written};
 ghost use Rattle.tx_log.specs.Log.{chain, lsn_of, kept_of, IsNumbered, AllWritten};
 ghost use Rattle.rec_types.specs.Kept.{Kept};
 ghost use Rattle.tx_log.specs.LogLaws.{IsChained};
+ghost use Rattle.tx_log.specs.LogRefusals.{look_refusal_in, change_refusal_in};
 ghost use Rattle.tx_log.specs.Walks.{absent_at};
 ghost use Rattle.tx_log.specs.declared.log_record.LogRecord.TheVariants.{Update, Compensation, Unclaim};
+ghost use Rattle.tx_log.specs.declared.refusal.ChangeRefusal.TheVariants.{NoSuchTx, Rolling, Held, LogFull};
 ghost use Rattle.tx_log.specs.Remaining.{LosesLives, IsPart, out_of, taken_back_at};
 
 /// A log of eight records, of a transaction that went back twice: its records are numbered, and lead to those before
@@ -89,4 +91,16 @@ pub fn a_part_uses_no_more()
     ensures of_two { log_use (λ _. true) (taken_back_at 1 97 ∷ out_of 2 98 ∷ []) ≡ 4 }
     ensures of_one { log_use (λ _. true) (out_of 2 98 ∷ []) ≡ 2 }
     ensures taken { IsPart (taken_back_at 1 97 ∷ []) (taken_back_at 1 97 ∷ []) → ⊥ }
+{}
+
+/// At a key that one of three transactions owns, over a log without room, each is refused for the first cause that it has:
+/// that it isn't open, that it is being rolled back, that another owns the key, and of the owner that the log is full. It
+/// may look, and with room for a record more it may change.
+pub fn first_refusal()
+    ensures no_such_tx { change_refusal_in (with_a_written 3) 4 (byte 97) ≡ Some NoSuchTx }
+    ensures rolling { change_refusal_in (with_a_written 3) 2 (byte 97) ≡ Some Rolling }
+    ensures held { change_refusal_in (with_a_written 3) 3 (byte 97) ≡ Some (Held one) }
+    ensures full { change_refusal_in (with_a_written 3) 1 (byte 97) ≡ Some LogFull }
+    ensures look { look_refusal_in (with_a_written 3) 1 (byte 97) ≡ None }
+    ensures room { change_refusal_in (with_a_written 4) 1 (byte 97) ≡ None }
 {}

@@ -10,6 +10,7 @@ mod mark;
 mod open_tx;
 mod phase;
 mod records;
+mod refusal;
 mod told;
 mod undo_chain;
 
@@ -17,3 +18,4 @@ pub use log::TxLog;
 pub use log_record::LogRecord;
 pub use open_tx::MOST_SAVEPOINTS;
 pub use phase::{BeginFault, Phase, UndoStep};
+pub use refusal::{ChangeRefusal, LookRefusal};

@@ -11,7 +11,7 @@ use super::Pages;
 use crate::page_edit::WriteFault;
 use crate::seal_store::SealStore;
 use crate::slot::Slot;
-use crate::write_back::{page_to_write, told};
+use crate::write_back::page_to_write;
 use rec_types::Memory;
 use std::alloc::Global;
 use std::collections::BTreeSet;
@@ -61,7 +61,7 @@ impl<S: SealStore> Pages<S> {
         };
         match self.store.seal(&numbers) {
             Ok(()) => Ok(()),
-            Err(fault) => Err(told(fault)),
+            Err(fault) => Err(WriteFault::from(fault)),
         }
     }
 }

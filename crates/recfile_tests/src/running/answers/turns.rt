@@ -10,10 +10,10 @@ use crate::running::{Row, flaky_file, open, run, store_of, three_records, tree};
 use btree_delete::{CloseStop, TreeTable};
 use page_store::{FlakyStore, Store, WriteFault};
 use rec_types::{Limits, SortedTable, Table};
-use recfile::{Feed, Manner, StreamCalls, run_in};
+use recfile::{Feed, FileFault, Manner, StreamCalls, exit_status, run_session};
 use record_file::{
     AbortFault, Answer, Call, ClaimFault, EntriesFault, GetFault, PutFault, RecordFile,
-    RemoveFault, ResumeFault, RollbackToFault, make_call,
+    RemoveFault, ResumeFault, RollbackToFault, Unlogged, make_call,
 };
 use std::alloc::Global;
 use std::io::Write;
@@ -370,7 +370,13 @@ fn each_write_of_a_close_fails_in_turn(rt: HostRuntime) {
     assert_eq!(rt; fail_each_write(&rt, rt.alloc(), 99), 7);
 }
 
-/// Runs a session over the store's file, on that count, and answers its status.
+/// Names why the file wasn't opened or closed, and answers that status.
+fn file_fault<E: Write>(err: &mut E, fault: FileFault) -> u8 {
+    let _ = writeln!(err, "recfile: {fault}");
+    exit_status(false, true, false)
+}
+
+/// Opens the store's file, runs a session over it, on that count, and closes it; answers its status.
 fn session_counted<L: Ledger, S: Store, W: Write, E: Write>(
     alloc: Global,
     store: S,
@@ -383,23 +389,31 @@ fn session_counted<L: Ledger, S: Store, W: Write, E: Write>(
 ) -> u8
     requires { IsBlankFor blank.name blank.parts L.name L.parts }
 {
+    let table = match TreeTable::open_from(alloc, store, limits) {
+        Ok(table) => table,
+        Err(stop) => return file_fault(err, FileFault::from(stop.fault)),
+    };
     let manner = Manner {
         strict,
         feed: Feed::Script,
     };
+    let mut file = RecordFile::new(alloc, table, limits);
     let mut calls = StreamCalls::<L>::new(blank);
     let mut reader = script;
-    let end = run_in(
+    let end = run_session(
         alloc,
-        store,
-        limits,
         manner,
+        &mut file,
+        &mut Unlogged,
         &mut reader,
         out,
         err,
         &mut calls,
     );
-    end.status
+    match file.abandon().close() {
+        Ok(_) => exit_status(end.ended.is_err(), false, end.script.is_err()),
+        Err(stop) => file_fault(err, FileFault::from(stop.fault)),
+    }
 }
 
 /// A session over the store's file: its replies and the line of its fault, and its status.

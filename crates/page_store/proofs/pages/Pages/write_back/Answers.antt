@@ -117,7 +117,7 @@ returns-in-Err-clause-stopped g c = λ steady.
 
 pub returns-in-Err-clause-memory : goal.returns-in-Err-clause-memory
 returns-in-Err-clause-memory g c = λ same.
-    let only = c.in-Err.ensures.memory (memory_back c.in-Err.fault c.told.result c.told.ensures same) in
+    let only = c.in-Err.ensures.memory (memory_back c.in-Err.fault c.from.result c.from.ensures same) in
     let long = length-pages_of (g.S.StoreState.pages c.self.inside.store) (slots_of c.self.inside.changed.items) c.self.inside.free.keys c.self.inside.count in
     record {
       grows =
