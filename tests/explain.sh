@@ -503,8 +503,11 @@ logged "$head\n$one\0begin\ncommit 2\n" "$stands 1 in number. $ours"
 logged "${head% *} 1\n$one" "$stands 1 in number. $others"
 logged "commits 1 3 ${head##* }\n$one" "$stands 1 in number. $others"
 strange="beside it stands $room/three.rec-commits, and it has no head of a log of commits of version 1: a session answers BadCommits. Move it away"
-for text in "" "$one" "commits 2 4 1\n$one" "commits 1 4\n$one" "$head 5\n$one" "commits 1 4 x\n$one" "commits 1 4 \n$one" "$head"; do
+for text in "" "$one" "commits 2 4 1\n$one" "commits 01 ${head#* 1 }\n$one" "$head"; do
     logged "$text" "$strange"
+done
+for text in "commits 1 3" "$head 5" "commits 1 3 x" "commits 1 3 " "commits 1 0${head#* 1 }"; do
+    logged "$text\n$one" "$stands 1 in number. $others"
 done
 log three.rec "$head\n$one"
 : > told

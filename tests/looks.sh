@@ -48,11 +48,38 @@ level 1: pages 1, keys 1, 50 of 100 places taken
 level 2: pages 2, keys 2, 50 of 100 places taken
 free pages:
 END
+cp wanted tree
 look show three.rec
 expect 0
 printf 'begin\nput 1 a =x\nput 1 b =y\nput 1 c =z\ncommit 1\n' > wanted
 look rescue three.rec
 expect 0
+
+row="a log of commits, and a side file, beside a whole file"
+cp wanted script
+{ printf 'commits 1 4 1\nbegin\nput 1 d =w\ncommit 1\n'; head -c 4096 /dev/zero; } > three.rec-commits
+cat > faults <<END
+beside it stands $room/three.rec-commits, a log of commits, 1 in number. It was begun over other pages: where they change a record, a session answers BadCommits. Bring back the file that it belongs to, or move it away
+left out: what stands beside three.rec
+END
+look rescue three.rec
+expect 0
+cp tree wanted
+look show three.rec
+expect 0
+rm three.rec-commits
+echo old > three.rec-journal
+cat > faults <<END
+beside it stands $room/three.rec-journal, and it isn't the whole side file of this file: a session answers BadJournal. Bring back the file that it belongs to, or take it away
+left out: what stands beside three.rec
+END
+look show three.rec
+expect 0
+cp script wanted
+look rescue three.rec
+expect 0
+rm three.rec-journal
+: > faults
 
 row="three levels, and pages that are free"
 "$program" create --order 1 seven.rec

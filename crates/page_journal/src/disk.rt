@@ -16,10 +16,10 @@ use rec_types::PAGE_WIDTH;
 /// device may lose, reorder and tear what wasn't synced: a crash leaves any of the unsynced calls done, not done or
 /// torn. It keeps what was synced.
 ///
-/// A side file is made under one name and then gets another, by which an opening finds it. Each of the three syncs
-/// keeps one part: the file, the side file that is being made, or which of the two has the name. The one fault is
-/// Failed; each failure is counted, but of the three calls that append to the log of commits, and a call that failed may be
-/// done, not done or torn.
+/// A side file is made under one name and then gets another, by which an opening finds it, and so is a log of commits.
+/// Each of the five syncs keeps one part: the file, the side file or the log that is being made, which of them have
+/// their names, or the bytes of the log. The one fault is Failed; each failure is counted, but of the three calls that
+/// append to the log, and a call that failed may be done, not done or torn.
 pub trait Disk: DiskState {
     /// The length of the file. Fault: Failed.
     fn shape(&mut self) -> Result<Shape, StoreFault>

@@ -8,9 +8,7 @@ use btree_node::{
     COUNT_AT, Header, HeaderFault, ORDER_AT, PAGES_AT, ROOT_AT, STATE_AT, VERSION_AT, read_header,
 };
 use file_system::{HostSystem, Lock};
-use page_journal::{
-    Beside, FileDisk, LogBeside, OpeningFault, log_name, refused_beside, side_name,
-};
+use page_journal::{Beside, FileDisk, OpeningFault, log_name, refused_beside, side_name};
 use rec_types::{MOST_RECORDS, PAGE_WIDTH};
 use std::alloc::Global;
 use std::fs::{OpenFile, OpenOptions};
@@ -315,12 +313,11 @@ fn tell_side<F: OpenFile + FileExt + Lock + Drop, H: Files<File = F>, W: Write>(
 fn tell_commits<W: Write>(
     out: &mut W,
     name: &str,
-    log: &LogBeside,
     head: &LogHead,
     side: Option<Beside>,
 ) -> io::Result<()> {
     let advice = match side {
-        Some(Beside::Nothing) if head.is_over(log) => {
+        Some(Beside::Nothing) if head.is_over => {
             "A session was stopped before it closed the file, and the next one puts them in"
         }
         Some(Beside::Nothing) => {
@@ -354,12 +351,13 @@ fn tell_log<F: OpenFile + FileExt + Lock + Drop, H: Files<File = F>, W: Write>(
     };
     match found {
         Ok(None) => {}
-        Ok(Some(log)) => match LogHead::of(&log.text) {
-            Some(head) => tell_commits(out, name.as_str(), &log, &head, side)?,
-            None => writeln!(
+        Ok(Some(log)) => match LogHead::of(alloc, &log) {
+            Ok(Some(head)) => tell_commits(out, name.as_str(), &head, side)?,
+            Ok(None) => writeln!(
                 out,
                 "beside it stands {name}, and it has no head of a log of commits of version 1: a session answers BadCommits. Move it away"
             )?,
+            Err(_) => return Err(no_memory()),
         },
         Err(OpeningFault::BadCommits) => writeln!(
             out,
@@ -390,6 +388,24 @@ fn tell_beside<F: OpenFile + FileExt + Lock + Drop, H: Files<File = F>, W: Write
     let side = tell_side(rt, alloc, path, name.as_str(), out)?;
     let log = tell_log(rt, alloc, path, side, out)?;
     Ok(Some(log || side != Some(Beside::Nothing)))
+}
+
+/// Tells what stands beside the file at a path, where it is read without that. What can't be told isn't. Error: want of
+/// memory.
+pub(crate) fn tell_left_beside<F: OpenFile + FileExt + Lock + Drop, H: Files<File = F>, E: Write>(
+    rt: &H,
+    alloc: Global,
+    path: &str,
+    err: &mut E,
+) -> io::Result<()> {
+    match tell_beside(rt, alloc, path, err) {
+        Ok(Some(true)) => {
+            let _ = writeln!(err, "left out: what stands beside {path}");
+            Ok(())
+        }
+        Err(error) if error.kind() == io::ErrorKind::OutOfMemory => Err(error),
+        _ => Ok(()),
+    }
 }
 
 // Tells whether the system refuses what is made in the folder of a path, by a closing or by `create`, behind what then

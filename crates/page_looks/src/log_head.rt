@@ -1,59 +1,38 @@
 use page_journal::LogBeside;
+use std::alloc::{AllocError, Global};
+use std::fmt::Write;
 
-// The version of the logs of commits that are known.
-const VERSION: u64 = 1;
+// What the first line of a log of commits of the known version begins with.
+const HEAD: &str = "commits 1 ";
 
 /// What a log of commits says of itself.
 #[derive(Clone, Copy)]
 pub(crate) struct LogHead {
-    // How many pages the file had when its session began, and the sum over them.
-    pages: u64,
-    sum: u64,
+    /// Whether its session began over the pages that the file has.
+    pub(crate) is_over: bool,
     /// How many commits are in it.
     pub(crate) commits: usize,
 }
 
-// The number that a word says in decimal digits.
-fn number_in(word: Option<&[u8]>) -> Option<u64> {
-    let word = word?;
-    if word.is_empty() {
-        return None;
+// The first line of a log that is begun over the file that one stands beside; of a file of too many pages no line.
+fn line_over(alloc: Global, log: &LogBeside) -> Result<String, AllocError> {
+    let mut line = String::new(alloc);
+    if let Some(sum) = log.sum {
+        write!(line, "{HEAD}{} {sum}", log.pages)?;
     }
-    let mut number: u64 = 0;
-    for digit in word {
-        if !digit.is_ascii_digit() {
-            return None;
-        }
-        number = number
-            .checked_mul(10)?
-            .checked_add(u64::from(digit - b'0'))?;
-    }
-    Some(number)
+    Ok(line)
 }
 
 impl LogHead {
-    /// That of a log whose finished units have this text; none where it has no head of a known version.
-    pub(crate) fn of(text: &[u8]) -> Option<LogHead> {
-        let mut lines = text.split(|byte| *byte == b'\n');
-        let mut words = lines.next()?.split(|byte| *byte == b' ');
-        if words.next()? != b"commits".as_slice() || number_in(words.next())? != VERSION {
-            return None;
+    /// That of a log; none where it isn't one of a known version. Fault: out of memory.
+    pub(crate) fn of(alloc: Global, log: &LogBeside) -> Result<Option<LogHead>, AllocError> {
+        let mut lines = log.text.split(|byte| *byte == b'\n');
+        let line = lines.next().unwrap_or(&[]);
+        if !line.starts_with(HEAD.as_bytes()) {
+            return Ok(None);
         }
-        let pages = number_in(words.next())?;
-        let sum = number_in(words.next())?;
-        if words.next().is_some() {
-            return None;
-        }
+        let is_over = line == line_over(alloc, log)?.as_bytes();
         let commits = lines.filter(|line| line.starts_with(b"c")).count();
-        Some(LogHead {
-            pages,
-            sum,
-            commits,
-        })
-    }
-
-    /// Whether its session began over the pages that the file has.
-    pub(crate) fn is_over(&self, log: &LogBeside) -> bool {
-        self.pages == log.pages && Some(self.sum) == log.sum
+        Ok(Some(LogHead { is_over, commits }))
     }
 }

@@ -1,4 +1,4 @@
-use crate::explain::{MOST_PAGES, wrong_count, wrong_pages};
+use crate::explain::{MOST_PAGES, tell_left_beside, wrong_count, wrong_pages};
 use crate::finding::Finding;
 use crate::page_view::PageView;
 use crate::shown::header_of;
@@ -6,6 +6,7 @@ use crate::spelt::{is_whole, kind_of};
 use crate::tree_walk::{Sight, Walk, unseen};
 use crate::unopened::{open_regular, tell_unopened};
 use btree_node::{Header, Node, decode_version};
+use file_system::Lock;
 use rec_types::PAGE_WIDTH;
 use std::alloc::{AllocError, Global};
 use std::fs::OpenFile;
@@ -156,9 +157,9 @@ fn reach_open<F: FileExt, E: Write>(
 }
 
 /// Looks at which pages of the file of a path its tree leads to. Of a file that isn't whole it tells on `err` which pages
-/// are no node and why, and which are one to which the tree doesn't lead; where the file isn't opened, why. It only reads
-/// the file. What can't be told isn't. Fault: out of memory.
-pub fn reach_file<F: OpenFile + FileExt + Drop, H: Files<File = F>, E: Write>(
+/// are no node and why, and which are one to which the tree doesn't lead; where a side file or a log of commits stands beside
+/// it, that; where the file isn't opened, why. It only reads the file. What can't be told isn't. Fault: out of memory.
+pub fn reach_file<F: OpenFile + FileExt + Lock + Drop, H: Files<File = F>, E: Write>(
     rt: &H,
     alloc: Global,
     path: &str,
@@ -175,6 +176,7 @@ pub fn reach_file<F: OpenFile + FileExt + Drop, H: Files<File = F>, E: Write>(
             return Ok(nothing);
         }
     };
+    tell_left_beside(rt, alloc, path, err).map_err(|_| AllocError)?;
     match file.metadata() {
         Ok(metadata) => reach_open(alloc, &file, metadata.len(), err),
         Err(_) => Ok(nothing),

@@ -1,4 +1,6 @@
-use crate::explain::{MOST_PAGES, header_finding, tell_locked, wrong_count, wrong_pages};
+use crate::explain::{
+    MOST_PAGES, header_finding, tell_left_beside, tell_locked, wrong_count, wrong_pages,
+};
 use crate::page_view::PageView;
 use crate::picture::draw_picture;
 use crate::show::draw_lines;
@@ -94,7 +96,8 @@ fn show_open<F: OpenFile + FileExt, W: Write, E: Write>(
 }
 
 /// Draws the tree of the file of a path on `out`, and answers whether all of it is as it should be: of a damaged file what
-/// is whole is drawn, and what isn't is told, beside its page or on `err`. It only reads the file, and waits for nothing.
+/// is whole is drawn, and what isn't is told, beside its page or on `err`, and so is a side file or a log of commits beside
+/// it. It only reads the file, and waits for nothing.
 /// Errors are those of the writer, behind which a front of the drawing is written, and want of memory.
 pub fn show_file<F: OpenFile + FileExt + Lock + Drop, H: Files<File = F>, W: Write, E: Write>(
     rt: &H,
@@ -112,7 +115,10 @@ pub fn show_file<F: OpenFile + FileExt + Lock + Drop, H: Files<File = F>, W: Wri
         }
     };
     match file.try_lock_shared() {
-        Ok(()) => show_open(alloc, &file, drawing, out, err),
+        Ok(()) => {
+            tell_left_beside(rt, alloc, path, err)?;
+            show_open(alloc, &file, drawing, out, err)
+        }
         Err(error) => {
             let _ = tell_locked(path, &error, err);
             Ok(false)
