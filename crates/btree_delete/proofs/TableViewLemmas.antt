@@ -3,6 +3,9 @@ use Rattle.std.proofs.Common.{◌≡◌, ℕ, ◌≤◌, true, false, Option, So
 use Rattle.std.specs.FinMap as maps
 use Rattle.std.specs.FinMap.{empty_of_len}
 use Rattle.rec_types.specs.Contents.{Contents, set_to}
+use Rattle.rec_types.specs.Ordered.{is_left, nearest, beside, in_turn, all_beside}
+use Rattle.rec_types.specs.declared.gap.Gap.{Gap}
+use Rattle.rec_types.specs.declared.side.Side.{Side}
 use Rattle.rec_types.specs.Table.{is_device}
 use Rattle.rec_types.specs.declared.table.TableFault.{TableFault}
 use Rattle.rec_types.specs.declared.table_calls.TableCalls.{TableCalls}
@@ -15,8 +18,9 @@ use Rattle.btree_insert.specs.declared.tree.TreeFault.{TreeFault}
 use Rattle.btree_insert.specs.declared.tree.TreeFault.TheVariants.{Device as ReadFailed, Damaged as NoTreePage, Memory as NoMemory}
 use Rattle.btree_insert.specs.Faults.{TreeAsksNoMemory}
 use Rattle.btree_insert.specs.Growth.{IsNotOfPages}
-use Rattle.rec_types.specs.Told.{TellsAll, TellsSome}
+use Rattle.rec_types.specs.Told.{TellsAll, TellsUntil, TellsSome}
 use Rattle.btree_insert.specs.PageTrees.{Holds}
+use Rattle.btree_insert.specs.Nearest.{IsNearest, TellsOrDevice}
 use Rattle.btree_insert.specs.Contents.{lookup_in, set_in, contents_of}
 use Rattle.btree_insert.specs.Elements.{contents_at}
 use Rattle.btree_insert.proofs.ContentsLemmas.{entries-contents_of, len-contents_of}
@@ -206,6 +210,20 @@ listed X items here now (Ok list) same is call steady =
     ∙ ap (λ (t : TableView). maps.entries (table_contents t)) same
 listed X items here now (Err fault) same is call steady = tt
 
+-- and a search for the record beside a gap
+pub beside_told : (side : Side) (from : Gap) (here now : TableView) (r : Result (Option Element) TreeFault) → here ≡ now → IsTable here
+    → (IsTrue here.pages.steady → (es : List Element) → (us : List ℕ) → Holds (at here.pages.pages) here.tree es us → IsNearest (nearest side (is_left from) es None) r)
+    → IsTrue now.pages.steady → IfOk (table_answer r) (λ found. found ≡ beside side (table_contents now) from)
+unfolding beside
+beside_told side from here now (Ok found) same is call steady =
+    let steady2 = steady_here here now same steady in
+    let held = is.holds steady2 in
+    call steady2 held.es held.us held.fills.holds
+    ∙ ap (λ (es : List Element). nearest side (is_left from) es None)
+    (sym (entries-contents_of held.es held.fills.holds.ascends) ∙ ap maps.entries (sym (held_contents (at here.pages.pages) here.tree held.es held.us is.tree.order.1 held.fills.holds))
+    ∙ ap (λ (t : TableView). maps.entries (table_contents t)) same)
+beside_told side from here now (Err fault) same is call steady = tt
+
 -- and a sink that is told the records
 pub told_records : {F : Type 0} (told : List Element → Type 0) (stops : List Element → F → Type 0) (here now : TableView) (r : Result (Result (Unit {0}) F) TreeFault) → here ≡ now → IsTable here
     → (IsTrue here.pages.steady → (es : List Element) → (us : List ℕ) → Holds (at here.pages.pages) here.tree es us → TellsAll ReadFailed told stops es r)
@@ -221,6 +239,25 @@ told_records {F} told stops here now r same is call steady =
     answered es (Ok (Ok ended)) is = is
     answered es (Ok (Err stop)) is = is
     answered es (Err ReadFailed) is = (refl, is.1)
+    answered es (Err (NoTreePage page)) is = let no = is.0 in absurd (cc)
+    answered es (Err NoMemory) is = let no = is.0 in absurd (cc)
+
+-- and a sink that is told those on a side of a gap
+pub told_on_side : {F : Type 0} (told : List Element → Type 0) (stops : List Element → F → Type 0) (side : Side) (from : Gap) (here now : TableView) (r : Result (Result (Unit {0}) F) TreeFault) → here ≡ now → IsTable here
+    → (IsTrue here.pages.steady → (es : List Element) → (us : List ℕ) → Holds (at here.pages.pages) here.tree es us → TellsOrDevice told stops (in_turn side (is_left from) es []) r)
+    → IsTrue now.pages.steady → TellsUntil told stops (all_beside side (table_contents now) from) (table_answer r) × ((page : ℕ) → table_answer r ≡ Err (Damaged page) → ⊥)
+unfolding all_beside
+told_on_side {F} told stops side from here now r same is call steady =
+    let steady2 = steady_here here now same steady in
+    let held = is.holds steady2 in
+    let entries_are : held.es ≡ maps.entries (table_contents now) = sym (entries-contents_of held.es held.fills.holds.ascends) ∙ ap maps.entries (sym (held_contents (at here.pages.pages) here.tree held.es held.us is.tree.order.1 held.fills.holds))
+    ∙ ap (λ (t : TableView). maps.entries (table_contents t)) same in
+    subst (λ (es : List Element). TellsUntil told stops (in_turn side (is_left from) es []) (table_answer r) × ((page : ℕ) → table_answer r ≡ Err (Damaged page) → ⊥)) entries_are (answered (in_turn side (is_left from) held.es []) r (call steady2 held.es held.us held.fills.holds))
+  where
+    answered : (es : List Element) (r : Result (Result (Unit {0}) F) TreeFault) → TellsOrDevice told stops es r → TellsUntil told stops es (table_answer r) × ((page : ℕ) → table_answer r ≡ Err (Damaged page) → ⊥)
+    answered es (Ok (Ok ended)) is = (is, λ page no. absurd (cc))
+    answered es (Ok (Err stop)) is = (is, λ page no. absurd (cc))
+    answered es (Err ReadFailed) is = (is.1, λ page no. absurd (cc))
     answered es (Err (NoTreePage page)) is = let no = is.0 in absurd (cc)
     answered es (Err NoMemory) is = let no = is.0 in absurd (cc)
 

@@ -18,6 +18,7 @@ pub mod OnePageLemmas
 pub mod LeafCutLemmas
 pub mod TreeClassLemmas
 pub mod ReachLemmas
+pub mod TellingLemmas
 pub mod ToldLemmas
 pub mod ReadingLemmas
 pub mod LeadLemmas
@@ -27,3 +28,6 @@ pub mod TreeElementLemmas
 pub mod TreeExampleLemmas
 pub mod SpeltLemmas
 pub mod RootSpotLemmas
+pub mod GapSonLemmas
+pub mod GapLeadLemmas
+pub mod GapPlaceLemmas

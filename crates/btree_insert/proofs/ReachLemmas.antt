@@ -1,6 +1,6 @@
 -- What a look-up and a walk have gone through.
 use Rattle.std.proofs.Common.{◌≡◌, ℕ, suc, ◌+◌, ◌<◌, inl, inr, Result, Ok, Err, Option, Some, None, List, [], ◌∷◌, ◌++◌, length, get_or, drop, refl, ap, sym, ◌∙◌, subst, arith, length-append}
-use Rattle.std.specs.Prelude.{IfOk, OnOk}
+use Rattle.std.specs.Prelude.{IfOk, OnOk, MatchResult}
 use Rattle.btree_node.specs.declared.node.Node.{Node}
 use Rattle.btree_node.specs.Lists.{Element, Each, Below, Ascends, IsAt, IsPlace}
 use Rattle.btree_node.proofs.ElementOrderLemmas.{Each-append, Each-map, Below-trans}
@@ -17,6 +17,10 @@ use Rattle.btree_insert.proofs.HeadNodeLemmas.{kind_above}
 pub if_ok : {X E : Type 0} (r : Result X E) (P Q : X → Type 0) → ((x : X) → P x → Q x) → IfOk r P → IfOk r Q
 if_ok (Ok x) P Q follows is = follows x is
 if_ok (Err e) P Q follows is = tt
+
+pub match_ok : {X E : Type 0} (r : Result X E) (P Q : X → Type 0) (F : E → Type 0) → ((x : X) → P x → Q x) → MatchResult r P F → MatchResult r Q F
+match_ok (Ok x) P Q F follows is = follows x is
+match_ok (Err e) P Q F follows is = is
 
 -- what follows from an answer
 pub on_ok : {X E : Type 0} (r : Result X E) (P Q : Type 0) → (P → Q) → OnOk r P → OnOk r Q

@@ -14,3 +14,4 @@ pub mod Elements
 pub mod Examples
 pub mod Spelt
 pub mod Steps
+pub mod Nearest

@@ -13,6 +13,7 @@ ghost use Rattle.btree_insert.specs.Edits.{Reads};
 ghost use Rattle.btree_insert.specs.Elements.{elements_of, contents_at};
 ghost use Rattle.btree_insert.specs.Examples.{ax, by, cz, tree_of, three_pages, uneven_pages, shared_pages, equal_pages};
 ghost use Rattle.btree_insert.specs.Inserted.{Inserted};
+ghost use Rattle.btree_insert.specs.Nearest.{TakesFirst, TellsOrDevice};
 ghost use Rattle.btree_insert.specs.PageTrees.{Holds};
 ghost use Rattle.rec_types.specs.Told.{TellsAll, TellsSome};
 ghost use Rattle.btree_insert.specs.declared.tree.Tree.{Tree};
@@ -112,4 +113,17 @@ pub fn tellings()
         (ax ∷ []) (Err (TreeFault.Damaged n)) → ⊥ }
     ensures some { TellsSome {E = TreeFault} {F = ℕ} (λ es. es ≡ ax ∷ []) (λ _ _. ⊥)
         (Err (TreeFault.Damaged 1)) }
+{}
+
+/// What a sink takes first of two elements may be one of them or both, with the key of the last one taken; it isn't nothing
+/// where there is one, and the key isn't that of another.
+pub fn first_tellings()
+    ensures one { TakesFirst {F = ℕ} (λ es. es ≡ ax ∷ []) (λ _ _. ⊥) (ax ∷ by ∷ []) (Ok (Some (97 ∷ []))) }
+    ensures both { TakesFirst {F = ℕ} (λ es. es ≡ ax ∷ by ∷ []) (λ _ _. ⊥) (ax ∷ by ∷ []) (Ok (Some (98 ∷ []))) }
+    ensures stopped { TakesFirst {F = ℕ} (λ _. ⊥) (λ es fault. (es ≡ ax ∷ []) × (fault ≡ 3)) (ax ∷ by ∷ []) (Err 3) }
+    ensures nothing { TakesFirst {F = ℕ} (λ es. es ≡ []) (λ _ _. ⊥) (ax ∷ by ∷ []) (Ok None) → ⊥ }
+    ensures other { TakesFirst {F = ℕ} (λ es. es ≡ ax ∷ by ∷ []) (λ _ _. ⊥) (ax ∷ by ∷ []) (Ok (Some (97 ∷ []))) → ⊥ }
+    ensures part { TellsOrDevice {F = ℕ} (λ es. es ≡ ax ∷ []) (λ _ _. ⊥) (ax ∷ by ∷ []) (Err TreeFault.Device) }
+    ensures behind { TellsOrDevice {F = ℕ} (λ es. es ≡ by ∷ []) (λ _ _. ⊥) (ax ∷ by ∷ [])
+        (Err TreeFault.Device) → ⊥ }
 {}

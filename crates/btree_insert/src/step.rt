@@ -123,7 +123,7 @@ pub fn is_page_within(page: &[u8; PAGE_WIDTH], order: u16, bounds: &Bounds) -> b
 }
 
 /// The bounds of son i of the node that the page spells: the same as `bounds_of_son` of its elements.
-fn bounds_in(page: &[u8; PAGE_WIDTH], order: u16, bounds: &Bounds, i: usize) -> Bounds
+pub(crate) fn bounds_in(page: &[u8; PAGE_WIDTH], order: u16, bounds: &Bounds, i: usize) -> Bounds
     requires { HasSonAt order page.now i }
     ensures { (m : Node) → CanStand m order → page.now ≡ spelling m order
         → result ≡ son_bounds m.elements.items i bounds.now }

@@ -56,7 +56,7 @@ pub pairs_more : (es : Pairs) (places : List ℕ) (k : ℕ) (so_far new : Pairs)
 pairs_more es places k so_far new below before is =
     is ∙ ap (λ (xs : Pairs). xs ++ pair_at es (get_or places k 0) ∷ []) before ∙ sym (map_push (pair_at es) (take k places) (get_or places k 0)) ∙ ap (map (pair_at es)) (sym (take_more places k 0 below))
 
-key_there : (es : Pairs) (place : ℕ) → (pair_at es place).0 ≡ key_at (keys_of es) place
+pub key_there : (es : Pairs) (place : ℕ) → (pair_at es place).0 ≡ key_at (keys_of es) place
 key_there [] place = refl
 key_there (e ∷ es) zero = refl
 key_there (e ∷ es) (suc place) = key_there es place

@@ -1,7 +1,10 @@
+pub mod BesideLemmas
 pub mod ContentsLemmas
 pub mod Fields
+pub mod GapLemmas
 pub mod HashedLemmas
 pub mod HistoryLemmas
+pub mod InTurnLemmas
 pub mod TakeBackLemmas
 pub mod MapLemmas
 pub mod NumberOrder
@@ -13,3 +16,4 @@ pub mod LogUseLemmas
 pub mod ZeroLemmas
 pub mod TagLemmas
 pub mod KeyOrderLemmas
+pub mod KeyPlaceLemmas

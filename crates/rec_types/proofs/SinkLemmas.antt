@@ -1,6 +1,8 @@
 -- What a sink was told.
-use Rattle.std.proofs.Common.{◌≡◌, ℕ, ◌+◌, ◌<◌, List, [], ◌∷◌, ◌++◌, Result, Ok, Err, length, get_or, take, drop, map, refl, ap, sym, ◌∙◌, subst}
-use Rattle.std.proofs.lemmas.List.{map-append, map_push, take-append-drop, take_more}
+use Rattle.std.proofs.Common.{◌≡◌, ℕ, ◌+◌, ◌-◌, ◌<◌, suc, List, [], ◌∷◌, ◌++◌, Result, Ok, Err, length, get_or, take, drop, map, reverse, refl, ap, sym, ◌∙◌, subst, arith}
+use Rattle.std.proofs.Math.Seq.{drop-cons}
+use Rattle.std.proofs.lemmas.List.{map-append, map_push, take-append-drop, take_more, reverse-append, take_all, drop-map, length-drop}
+use Rattle.std.specs.List.{take-map}
 use Rattle.rec_types.specs.Sorted.{Pairs, pair_at}
 use Rattle.rec_types.specs.Told.{Takes, TakesFront, TakesPart, TellsAll, TellsUntil}
 
@@ -39,3 +41,26 @@ pairs_behind es places k below =
     ap (λ (xs : Pairs). xs ++ map (pair_at es) (drop (k + 1) places)) (pairs_to es places k below)
     ∙ sym (map-append (pair_at es) (take (k + 1) places) (drop (k + 1) places))
     ∙ ap (map (pair_at es)) (take-append-drop (k + 1) places)
+
+-- ---- the last first
+
+-- those from a place on, and the one before it
+pub back_to : (es : Pairs) (places : List ℕ) (k : ℕ) → k < length places → reverse (map (pair_at es) (drop (suc k) places)) ++ pair_at es (get_or places k 0) ∷ [] ≡ reverse (map (pair_at es) (drop k places))
+back_to es places k below =
+    sym (reverse-append (pair_at es (get_or places k 0) ∷ []) (map (pair_at es) (drop (suc k) places)))
+    ∙ ap (λ (xs : List ℕ). reverse (map (pair_at es) xs)) (sym (drop-cons places k 0 below))
+
+-- and those before that
+pub back_whole : (es : Pairs) (places : List ℕ) (k : ℕ) → reverse (map (pair_at es) (drop k places)) ++ reverse (map (pair_at es) (take k places)) ≡ reverse (map (pair_at es) places)
+back_whole es places k =
+    sym (reverse-append (map (pair_at es) (take k places)) (map (pair_at es) (drop k places)))
+    ∙ ap reverse (sym (map-append (pair_at es) (take k places) (drop k places)) ∙ ap (map (pair_at es)) (take-append-drop k places))
+
+-- ---- those on a side of a place
+
+pub pairs_from : (es : Pairs) (places : List ℕ) (i : ℕ) → map (pair_at es) (take (length places - i) (drop i places)) ≡ drop i (map (pair_at es) places)
+pairs_from es places i =
+    ap (map (pair_at es)) (take_all (length places - i) (drop i places) (omega (arith, length-drop i places))) ∙ sym (drop-map (pair_at es) i places)
+
+pub pairs_upto : (es : Pairs) (places : List ℕ) (i : ℕ) → reverse (map (pair_at es) (take i places)) ≡ reverse (take i (map (pair_at es) places))
+pairs_upto es places i = ap reverse (sym (take-map (pair_at es) i places))

@@ -2,7 +2,7 @@
 use Rattle.std.proofs.Common.{◌≡◌, ℕ, ◌+◌, ◌-◌, ◌<◌, ◌≤◌, ◌⊎◌, Bool, true, false, cond, List, [], ◌∷◌, ◌++◌, length, get_or, slice_get, set, Option, Some, None, Result, Ok, Err, OnErr, is_some, IsSome, if◌then◌else◌, inl, inr, ⊎_elim, refl, sym, ap, subst, ◌∙◌, arith}
 use Rattle.std.proofs.lemmas.Bool.{cases_eq, cases_lt, false≢true}
 use Rattle.std.proofs.lemmas.Cmp.{nat_list_eq_equiv}
-use Rattle.std.proofs.lemmas.List.{length-append, length-map, length-set, get_or-set_same, get_or-set_other, get_or_append_left, get_or_default, get_or-map, get_or_push}
+use Rattle.std.proofs.lemmas.List.{length-append, length-map, length-set, get_or-set_same, get_or-set_other, get_or_append_left, get_or_default, get_or-map, get_or_push, map_push}
 use Rattle.std.proofs.lemmas.Map.Entries.{place_from_lookup}
 use Rattle.std.proofs.lemmas.Map.Keys.{IsDistinct-from_apart}
 use Rattle.std.proofs.lemmas.Map.Made.{is_some-lookup, lookup-map_values}
@@ -32,6 +32,10 @@ pub keys-pairs_in : (slots : Slots) (long : Pairs) → keys_of (pairs_in slots l
 keys-pairs_in [] long = refl
 keys-pairs_in (e ∷ es) long = ap (λ ks. e.0 ∷ ks) (keys-pairs_in es long)
 
+-- a key more
+pub keys_push : (slots : Slots) (k : List ℕ) (slot : Slot) → keys_of (slots ++ (k, slot) ∷ []) ≡ keys_of slots ++ k ∷ []
+keys_push slots k slot = map_push (λ (e : List ℕ × Slot). e.0) slots (k, slot)
+
 pub length-pairs_in : (slots : Slots) (long : Pairs) → length (pairs_in slots long) ≡ length slots
 length-pairs_in slots long = length-map slots (λ e. (e.0, record_in long e.1))
 
@@ -57,6 +61,9 @@ module _ (slots left : Slots) (long new : Pairs) (es : Pairs) (view : pairs_in s
 
   pub keys_seen : keys_of left ≡ keys_of slots → keys_of (pairs_in left new) ≡ keys_of es
   keys_seen same = keys-pairs_in left new ∙ same ∙ sym (keys-pairs_in slots long) ∙ ap (λ (x : Pairs). keys_of x) view
+
+  pub last_seen : (k : List ℕ) → keys_of left ≡ keys_of slots ++ k ∷ [] → keys_of (pairs_in left new) ≡ keys_of es ++ k ∷ []
+  last_seen k more = keys-pairs_in left new ∙ more ∙ ap (λ (ks : List (List ℕ)). ks ++ k ∷ []) (sym (keys-pairs_in slots long) ∙ ap (λ (x : Pairs). keys_of x) view)
 
   -- as many records as slots: one more, where none stood at the key
   pub length_seen : (o : Option Slot) (r : Option (List ℕ)) → length left ≡ length slots + (if is_some o then 0 else 1) → r ≡ option_map (record_in long) o → length (pairs_in left new) ≡ length es + (if is_some r then 0 else 1)
@@ -398,6 +405,12 @@ pair_seen slots long es index k slot view there =
     ∙ ap (option_map (λ e. (e.0, record_in long e.1))) there))
 
 -- a slot with its record is a slot
+-- no slot
+pub none_short : (o : Option Slot) → place_of o ≡ None → short_in o ≡ None → o ≡ None
+none_short None long none = refl
+none_short (Some (Short r)) long none = absurd (cc)
+none_short (Some (Long at)) long none = absurd (cc)
+
 pub short_some : (o : Option Slot) → is_some (short_in o) ≡ true → is_some o ≡ true
 short_some None some = some
 short_some (Some slot) some = refl

@@ -1,5 +1,5 @@
 -- How often a table was called, and what each call adds to that.
-use Rattle.std.specs.Prelude.{ℕ, Bool, true, false, List, Option, Some, None, Result, Ok, Err, refl}
+use Rattle.std.specs.Prelude.{◌≡◌, ℕ, Bool, true, false, List, Option, Some, None, Result, Ok, Err, refl}
 use Rattle.std.specs.Coded.{Coded, code_by, coded×, coded_ℕ}
 use Rattle.rec_types.specs.Table.{counted}
 use Rattle.rec_types.specs.declared.table.TableFault.{TableFault}
@@ -38,3 +38,7 @@ with_set calls takes_out answer = record calls { sets = counted calls.sets true;
 -- one more list
 abbrev pub with_list : TableCalls → TableCalls
 with_list calls = record calls { lists = counted calls.lists true }
+
+-- one more list was made
+abbrev pub CountsList : TableCalls → TableCalls → Type 0
+CountsList old new = new ≡ with_list old

@@ -12,6 +12,7 @@ pub mod LimitBounds
 pub mod LimitFields
 pub mod Limits
 pub mod Padded
+pub mod Ordered
 pub mod Record
 pub mod RecordBytes
 pub mod ShortBytes

@@ -1,5 +1,5 @@
 -- A table in a hashed map.
-use Rattle.std.specs.Prelude.{ℕ, ◌==◌, Bool, T, List, [], slice_index_or, refl}
+use Rattle.std.specs.Prelude.{◌≡◌, ℕ, ◌==◌, Bool, T, List, [], slice_index_or, refl}
 use Rattle.std.specs.Coded.{Coded, code_by, coded×, coded_ℕ}
 use Rattle.std.specs.FinMap as maps
 use Rattle.std.specs.Ordering.{nat_cmp}
@@ -17,6 +17,10 @@ pub record SortedState : Type 0 where
 
 abbrev pub coded_sorted_state : Coded SortedState
 coded_sorted_state = code_by (Contents × (ℕ × (ℕ × TableCalls))) (coded× coded_contents (coded× coded_ℕ (coded× coded_ℕ coded_calls))) (λ s. (s.contents, (s.limit, (s.refusals, s.calls)))) (λ p. record { contents = p.0; limit = p.1.0; refusals = p.1.1.0; calls = p.1.1.1 }) (λ _. refl)
+
+-- nothing of it changes
+abbrev pub IsSameTable : SortedState → SortedState → Type 0
+IsSameTable old new = new ≡ old
 
 abbrev pub Pairs : Type 0
 Pairs = List (List ℕ × List ℕ)

@@ -3,7 +3,7 @@ use Rattle.std.specs.Prelude.{◌≤◌, length, IsTrue}
 use Rattle.std.specs.FinMap as maps
 use Rattle.std.specs.List.{IsDistinct}
 use Rattle.std.specs.Map.{keys_of}
-use Rattle.rec_types.specs.KeyOrder.{IsOrderOf}
+use Rattle.rec_types.specs.KeyOrder.{IsOrderOfFirst}
 use Rattle.rec_types.specs.LimitBounds.{most_records}
 use Rattle.rec_types.specs.Sorted.{SortedState, same_bytes}
 use Rattle.rec_types.specs.declared.sorted_table.SortedTable.TheInside.{Inside}
@@ -15,4 +15,4 @@ pub record IsSortedTable (t : Inside) : Type 0 where
   pub unique : IsDistinct same_bytes (keys_of t.records)
   pub within : length t.records ≤ t.limit
   pub limited : t.limit ≤ most_records
-  pub ordered : IsTrue t.in_order → IsOrderOf (keys_of t.records) t.places.items
+  pub ordered : IsTrue t.in_order → IsOrderOfFirst (keys_of t.records) t.places.items

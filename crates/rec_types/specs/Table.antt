@@ -21,6 +21,10 @@ is_memory (Err Memory) = true
 abbrev pub NeverFull : {A : Type 0} → Result A TableFault → Type 0
 NeverFull answer = answer ≢ Err NoRoom
 
+-- the call asked for no memory
+abbrev pub NeedsNoMemory : {A : Type 0} → Result A TableFault → Type 0
+NeedsNoMemory answer = answer ≢ Err Memory
+
 -- the greatest number of 64 bits
 abbrev pub greatest_count : ℕ
 greatest_count = 18446744073709551615

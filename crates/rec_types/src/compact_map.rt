@@ -78,6 +78,18 @@ impl CompactMap {
         Ok(())
     }
 
+    /// The record at an index, with its key.
+    pub(crate) fn pair(&self, index: usize) -> (Key, Record)
+        requires { index < length self.now }
+        ensures { result ≡ pair_at self.now index }
+    {
+        let (key, slot) = self.slots.get_index(index).unwrap();
+        match slot {
+            Slot::Short(record) => return (*key, record.record()),
+            Slot::Long(at) => return (*key, self.long[*at as usize].1),
+        }
+    }
+
     /// Tells a sink the record at an index, with its key. Fault: the sink's.
     pub(crate) fn tell_at<O, K: RecordSink<O>>(
         &self,
@@ -123,6 +135,8 @@ impl CompactMap {
         ensures updates { OnOk result ((q : List ℕ) → lookup (same_bytes q) self.new
             ≡ cond (same_bytes key q) (Some «record».now) (lookup (same_bytes q) self.old)) }
         ensures keys { IfOk result (λ before. IsSome before → keys_of self.new ≡ keys_of self.old) }
+        ensures last { IfOk result
+            (λ before. before ≡ None → keys_of self.new ≡ keys_of self.old ++ key ∷ []) }
         ensures len { IfOk result (λ before. length self.new
             ≡ length self.old + (if is_some before then 0 else 1)) }
         ensures err { OnErr result (self.new ≡ self.old) }
@@ -197,6 +211,8 @@ fn put_slot(slots: &mut IndexMap<Key, Slot>, key: Key, slot: Slot) -> Result<Opt
         ≡ cond (same_bytes key q) (Some slot) (slot_at slots.old.entries q)) }
     ensures keys { OnOk result (IsSome (slot_at slots.old.entries key)
         → keys_of slots.new.entries ≡ keys_of slots.old.entries) }
+    ensures last { OnOk result (slot_at slots.old.entries key ≡ None
+        → keys_of slots.new.entries ≡ keys_of slots.old.entries ++ key ∷ []) }
     ensures len { OnOk result (index_map_len slots.new ≡ index_map_len slots.old
         + (if is_some (slot_at slots.old.entries key) then 0 else 1)) }
     ensures err { OnErr result ((slots.new.entries ≡ slots.old.entries)

@@ -3,11 +3,14 @@ ghost use Rattle.std.specs.FinMap as maps;
 ghost use Rattle.rec_types.specs.Contents.{set_to};
 ghost use Rattle.rec_types.specs.Flaky.{fails_next, called, failures_of};
 ghost use Rattle.rec_types.specs.Answered.{Answered};
-ghost use Rattle.rec_types.specs.Calls.{no_calls, with_get, with_set, with_list};
-ghost use Rattle.rec_types.specs.Table.{NeverFull, is_device, counted};
+ghost use Rattle.rec_types.specs.Calls.{no_calls, with_get, with_set, with_list, CountsList};
+ghost use Rattle.rec_types.specs.Ordered.{beside, all_beside};
+ghost use Rattle.rec_types.specs.Table.{NeverFull, is_device, counted, NeedsNoMemory};
 ghost use Rattle.rec_types.specs.Told.{TellsUntil, TellsSome};
 
-use crate::{Key, NO_CALLS, Record, RecordSink, Table, TableCalls, TableFault, TableState};
+use crate::{
+    Gap, Key, NO_CALLS, Record, RecordSink, Side, Table, TableCalls, TableFault, TableState,
+};
 use std::marker::Model;
 
 /// A table whose device fails at chosen calls of `set`. Everything else it hands on to the table below it. The
@@ -92,7 +95,7 @@ impl<T: Table> Table for FlakyTable<T> {
         ensures value { IsTrue (T.sound self.old.inner)
             → IfOk result (λ found. found ≡ maps.get (T.contents self.old.inner) key.now) }
         ensures same { T.contents self.new.inner ≡ T.contents self.old.inner }
-        ensures no_memory { result ≢ Err TableFault.Memory }
+        ensures no_memory { NeedsNoMemory result }
         ensures no_room { NeverFull result }
         ensures answered { Answered ⟦<FlakyTable<T> as TableState>⟧ self.old result self.new }
         ensures calls { self.new.calls ≡ with_get self.old.calls }
@@ -103,6 +106,23 @@ impl<T: Table> Table for FlakyTable<T> {
     {
         self.calls.note_get();
         self.inner.get(key)
+    }
+
+    /// The record nearest to a gap on a side of it, with its key. Faults: those of the table below.
+    fn beside(&mut self, side: Side, gap: &Gap) -> Result<Option<(Key, Record)>, TableFault>
+        ensures value { IsTrue (T.sound self.old.inner)
+            → IfOk result (λ found. found ≡ beside side (T.contents self.old.inner) gap.now) }
+        ensures same { T.contents self.new.inner ≡ T.contents self.old.inner }
+        ensures no_room { NeverFull result }
+        ensures answered { Answered ⟦<FlakyTable<T> as TableState>⟧ self.old result self.new }
+        ensures calls { self.new.calls ≡ with_get self.old.calls }
+        ensures inner { (T.calls self.new.inner ≡ with_get (T.calls self.old.inner))
+            × (T.device_failures self.new.inner
+            ≡ counted (T.device_failures self.old.inner) (is_device result)) }
+        ensures rest { self.new ≡ called self.old self.new.inner self.new.calls false }
+    {
+        self.calls.note_get();
+        self.inner.beside(side, gap)
     }
 
     /// Puts a record at the key, or takes the key out, and answers what stood there before. Faults:
@@ -156,7 +176,7 @@ impl<T: Table> Table for FlakyTable<T> {
         ensures same { T.contents self.new.inner ≡ T.contents self.old.inner }
         ensures no_room { NeverFull result }
         ensures answered { Answered ⟦<FlakyTable<T> as TableState>⟧ self.old result self.new }
-        ensures calls { self.new.calls ≡ with_list self.old.calls }
+        ensures calls { CountsList self.old.calls self.new.calls }
         ensures inner { (T.calls self.new.inner ≡ with_list (T.calls self.old.inner))
             × (T.device_failures self.new.inner
             ≡ counted (T.device_failures self.old.inner) (is_device result)) }
@@ -181,7 +201,7 @@ impl<T: Table> Table for FlakyTable<T> {
         ensures same { T.contents self.new.inner ≡ T.contents self.old.inner }
         ensures no_room { NeverFull result }
         ensures answered { Answered ⟦<FlakyTable<T> as TableState>⟧ self.old result self.new }
-        ensures calls { self.new.calls ≡ with_list self.old.calls }
+        ensures calls { CountsList self.old.calls self.new.calls }
         ensures inner { (T.calls self.new.inner ≡ with_list (T.calls self.old.inner))
             × (T.device_failures self.new.inner
             ≡ counted (T.device_failures self.old.inner) (is_device result)) }
@@ -189,6 +209,34 @@ impl<T: Table> Table for FlakyTable<T> {
     {
         self.calls.note_list();
         self.inner.tell(sink, out)
+    }
+
+    /// Tells a sink the records on a side of a gap, the nearest first. Inside, the fault at which the sink stopped. Faults:
+    /// those of the table below.
+    fn tell_beside<O, K: RecordSink<O>>(
+        &mut self,
+        side: Side,
+        gap: &Gap,
+        sink: &mut K,
+        out: &mut O,
+    ) -> Result<Result<(), K::Fault>, TableFault>
+        ensures told { IsTrue (T.sound self.old.inner)
+            → TellsUntil (λ es. K.told sink.old out.old es sink.new out.new)
+            (λ es fault. K.stops sink.old out.old es fault sink.new out.new)
+            (all_beside side (T.contents self.old.inner) gap.now) result }
+        ensures some { TellsSome (λ es. K.told sink.old out.old es sink.new out.new)
+            (λ es fault. K.stops sink.old out.old es fault sink.new out.new) result }
+        ensures same { T.contents self.new.inner ≡ T.contents self.old.inner }
+        ensures no_room { NeverFull result }
+        ensures answered { Answered ⟦<FlakyTable<T> as TableState>⟧ self.old result self.new }
+        ensures calls { CountsList self.old.calls self.new.calls }
+        ensures inner { (T.calls self.new.inner ≡ with_list (T.calls self.old.inner))
+            × (T.device_failures self.new.inner
+            ≡ counted (T.device_failures self.old.inner) (is_device result)) }
+        ensures rest { self.new ≡ called self.old self.new.inner self.new.calls false }
+    {
+        self.calls.note_list();
+        self.inner.tell_beside(side, gap, sink, out)
     }
 
     fn count(&self) -> u32 {

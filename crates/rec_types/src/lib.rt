@@ -3,6 +3,7 @@
 
 mod compact_map;
 mod flaky_table;
+mod gap;
 mod key;
 mod key_order;
 mod key_text;
@@ -12,6 +13,7 @@ mod memory;
 mod number;
 mod record;
 mod record_sink;
+mod side;
 mod slot;
 mod sorted_table;
 mod table;
@@ -21,12 +23,14 @@ mod transaction;
 mod widths;
 
 pub use flaky_table::FlakyTable;
+pub use gap::Gap;
 pub use key::{Key, KeyFault};
 pub use key_order::order_of;
 pub use limits::{LimitFault, Limits, MOST_BEGINS, MOST_LOG_RECORDS, MOST_RECORDS};
 pub use memory::Memory;
 pub use record::{Record, RecordFault};
 pub use record_sink::RecordSink;
+pub use side::Side;
 pub use sorted_table::SortedTable;
 pub use table::{Table, TableFault};
 pub use table_calls::{NO_CALLS, TableCalls};

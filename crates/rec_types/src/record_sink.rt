@@ -5,7 +5,7 @@ ghost use Rattle.rec_types.specs.Widths.{widest_record};
 
 use crate::Key;
 
-/// What takes the records of a table in key order, one at a time. What it makes of them may go on to `O`, which stands
+/// What takes the records of a table in turn, one at a time. What it makes of them may go on to `O`, which stands
 /// behind it.
 pub trait RecordSink<O> {
     /// Why it takes no more records.

@@ -3,10 +3,11 @@ ghost use Rattle.std.specs.FinMap as maps;
 ghost use Rattle.rec_types.specs.Contents.{set_to};
 ghost use Rattle.rec_types.specs.Answered.{Answered};
 ghost use Rattle.rec_types.specs.Calls.{with_get, with_set, with_list};
-ghost use Rattle.rec_types.specs.Table.{NeverFull, is_device};
+ghost use Rattle.rec_types.specs.Ordered.{beside, all_beside};
+ghost use Rattle.rec_types.specs.Table.{NeverFull, is_device, NeedsNoMemory};
 ghost use Rattle.rec_types.specs.Told.{TellsUntil, TellsSome};
 
-use crate::{Key, Record, RecordSink, TableState};
+use crate::{Gap, Key, Record, RecordSink, Side, TableState};
 use thiserror::Error;
 
 /// Why a table refused a call. Every fault leaves the table's records unchanged.
@@ -29,7 +30,16 @@ pub trait Table: TableState + Drop {
         ensures value { IsTrue (Self.sound self.old)
             → IfOk result (λ found. found ≡ maps.get (Self.contents self.old) key.now) }
         ensures same { Self.contents self.new ≡ Self.contents self.old }
-        ensures no_memory { result ≢ Err TableFault.Memory }
+        ensures no_memory { NeedsNoMemory result }
+        ensures no_room { NeverFull result }
+        ensures answered { Answered Self.TableState self.old result self.new }
+        ensures calls { Self.calls self.new ≡ with_get (Self.calls self.old) };
+
+    /// The record nearest to a gap on a side of it, with its key. Faults: Device, Damaged, Memory.
+    fn beside(&mut self, side: Side, gap: &Gap) -> Result<Option<(Key, Record)>, TableFault>
+        ensures value { IsTrue (Self.sound self.old)
+            → IfOk result (λ found. found ≡ beside side (Self.contents self.old) gap.now) }
+        ensures same { Self.contents self.new ≡ Self.contents self.old }
         ensures no_room { NeverFull result }
         ensures answered { Answered Self.TableState self.old result self.new }
         ensures calls { Self.calls self.new ≡ with_get (Self.calls self.old) };
@@ -81,6 +91,27 @@ pub trait Table: TableState + Drop {
             → TellsUntil (λ es. K.told sink.old out.old es sink.new out.new)
             (λ es fault. K.stops sink.old out.old es fault sink.new out.new)
             (maps.entries (Self.contents self.old)) result }
+        ensures some { TellsSome (λ es. K.told sink.old out.old es sink.new out.new)
+            (λ es fault. K.stops sink.old out.old es fault sink.new out.new) result }
+        ensures same { Self.contents self.new ≡ Self.contents self.old }
+        ensures no_room { NeverFull result }
+        ensures answered { Answered Self.TableState self.old result self.new }
+        ensures calls { Self.calls self.new ≡ with_list (Self.calls self.old) };
+
+    /// Tells a sink the records on a side of a gap, the nearest first: those behind it in key order, those before it in falling
+    /// order. Inside, the fault at which the sink stopped. Faults: Device, Damaged, Memory; the sink was told some of those
+    /// records then, from the nearest on.
+    fn tell_beside<O, K: RecordSink<O>>(
+        &mut self,
+        side: Side,
+        gap: &Gap,
+        sink: &mut K,
+        out: &mut O,
+    ) -> Result<Result<(), K::Fault>, TableFault>
+        ensures told { IsTrue (Self.sound self.old)
+            → TellsUntil (λ es. K.told sink.old out.old es sink.new out.new)
+            (λ es fault. K.stops sink.old out.old es fault sink.new out.new)
+            (all_beside side (Self.contents self.old) gap.now) result }
         ensures some { TellsSome (λ es. K.told sink.old out.old es sink.new out.new)
             (λ es fault. K.stops sink.old out.old es fault sink.new out.new) result }
         ensures same { Self.contents self.new ≡ Self.contents self.old }

@@ -11,7 +11,7 @@ use Rattle.tx_log.specs.LogState.{active_with, rolling_to, rollback_phase, phase
 use Rattle.tx_log.specs.declared.phase.BeginFault.TheVariants as begin_faults
 use Rattle.record_file.specs.Abstract.{charged_of, EndsAtBeginning, IsWholeTx, AbortsWhole, File, records_of, open_of, tx_of, phase_at, is_full, with_change}
 use Rattle.record_file.specs.Steps.{BeginStep, CommitStep, Becomes, Accepts, key_change, active_refusal, rolling_refusal, key_refusal, places_at, rolling_place, to_of}
-use Rattle.record_file.specs.Runs.{Called, Event, Seen, Step, Answers, IsKeptSeen, Begin, Put, Claim, Remove, Get, Savepoint, Release, RollbackTo, Abort, Resume, Commit, Entries, KeysOf, StatusOf, Charged, Begun, LogLen, LogUse, RecordAt, IntoTable}
+use Rattle.record_file.specs.Runs.{Called, Event, Seen, Step, Answers, IsKeptSeen, Begin, Put, Claim, Remove, Get, Savepoint, Release, RollbackTo, Abort, Resume, Commit, Entries, Beside, EntriesBeside, CommittedAt, KeysOf, StatusOf, Charged, Begun, LogLen, LogUse, RecordAt, IntoTable}
 use Rattle.record_file.specs.Undo.{old_record}
 use Rattle.record_file.specs.Remaining.{begins_or_commits}
 use Rattle.record_file.specs.declared.fault.RollbackToFault.TheVariants as rollback_faults
@@ -158,6 +158,9 @@ move_called old new (Resume t (Err (resume_faults.Stopped undone left cause))) f
 move_called old new (Commit t (Ok done)) failed refused sound still was is all step = Committed t done refl step.1
 move_called old new (Commit t (Err fault)) failed refused sound still was is all step = Still step.1.1 refl refl
 move_called old new (Entries answer) failed refused sound still was is all step = Still step.1.same.1 refl refl
+move_called old new (Beside side gap answer) failed refused sound still was is all step = Still step.1.same.1 refl refl
+move_called old new (EntriesBeside side gap answer) failed refused sound still was is all step = Still step.1.same.1 refl refl
+move_called old new (CommittedAt x answer) failed refused sound still was is all step = Still step.1.same.1 refl refl
 move_called old new (KeysOf t answer) failed refused sound still was is all step = Still (ap (λ (s : Seen). s.file) step.0.2) refl refl
 move_called old new (StatusOf t answer) failed refused sound still was is all step = Still (ap (λ (s : Seen). s.file) step.0.2) refl refl
 move_called old new (Charged count) failed refused sound still was is all step = Still (ap (λ (s : Seen). s.file) step.0.2) refl refl

@@ -2,15 +2,17 @@
 use Rattle.std.proofs.Common.{◌≡◌, ℕ, [], if◌then◌else◌, Bool, true, false, List, Option, Some, None, Result, Ok, Err, refl, sym, ◌∙◌, ap, IfSome}
 use Rattle.rec_types.specs.declared.table_state.TableState.{Ghosts}
 use Rattle.record_file.specs.declared.fault.GetFault.{GetFault}
+use Rattle.record_file.specs.declared.fault.CommittedFault.{CommittedFault}
+use Rattle.record_file.specs.declared.fault.CommittedFault.TheVariants as committed_faults
 use Rattle.record_file.specs.declared.fault.GetFault.TheVariants as get_faults
 use Rattle.record_file.specs.Abstract.{OpenFile, IsKeptFile}
 use Rattle.record_file.specs.Asked.{Asked, Asks, UndoAsks}
 use Rattle.record_file.specs.declared.fault.Cause.{Cause}
 use Rattle.record_file.specs.Outside.{by_device, by_memory, NeverDamaged}
-use Rattle.record_file.specs.Refusals.{put_refusal, claim_refusal, remove_refusal, get_refusal, rollback_refusal, abort_refusal, resume_refusal, refusal_by, cause_by}
+use Rattle.record_file.specs.Refusals.{put_refusal, claim_refusal, remove_refusal, get_refusal, committed_refusal, rollback_refusal, abort_refusal, resume_refusal, refusal_by, cause_by}
 use Rattle.record_file.specs.declared.refusal.Refusal.{Refusal}
 use Rattle.record_file.specs.Steps.{key_refusal, tx_refusal, returning_refusal, resuming_refusal}
-use Rattle.record_file.specs.Runs.{Called, Seen, Step, Answers, Made, IsKeptSeen, cause_in, event_of, seen, seen_as, undoubted, Begin, Put, Claim, Remove, Get, Savepoint, Release, RollbackTo, Abort, Resume, Commit, Entries, KeysOf, StatusOf, Charged, Begun, LogLen, LogUse, RecordAt, IntoTable}
+use Rattle.record_file.specs.Runs.{Called, Seen, Step, Answers, Made, IsKeptSeen, cause_in, event_of, seen, seen_as, undoubted, Begin, Put, Claim, Remove, Get, Savepoint, Release, RollbackTo, Abort, Resume, Commit, Entries, Beside, EntriesBeside, CommittedAt, KeysOf, StatusOf, Charged, Begun, LogLen, LogUse, RecordAt, IntoTable}
 use Rattle.record_file.specs.Seen.{commits_of, doubt_of}
 use Rattle.record_file.specs.declared.call.Call.{Call}
 use Rattle.record_file.specs.declared.call.Answer.{Answer}
@@ -93,6 +95,9 @@ module _ (old new : Seen) (logged : Bool) (was is : List (List (List ℕ))) (sam
   answers_alike (Resume t answer) failed refused told = (told.0, record { step = told.1.step; rolled = told.1.rolled; opening = told.1.opening; refused = alike_refused (resuming_refusal old.file t.0) (refusal_by resume_refusal answer) told.1.refused; damages = told.1.damages; asks = alike_undo _ told.1.asks })
   answers_alike (Commit t answer) failed refused told = ((told.0.0, told.0.1, λ i. With (told.0.2 i) is), told.1)
   answers_alike (Entries answer) failed refused told = (told.0, record { owners = told.1.owners; step = told.1.step; same = told.1.same; damages = told.1.damages; asks = told.1.asks })
+  answers_alike (Beside side gap answer) failed refused told = (told.0, record { owner = told.1.owner; step = told.1.step; same = told.1.same; damages = told.1.damages; asks = told.1.asks })
+  answers_alike (EntriesBeside side gap answer) failed refused told = (told.0, record { owners = told.1.owners; step = told.1.step; same = told.1.same; damages = told.1.damages; asks = told.1.asks })
+  answers_alike (CommittedAt x answer) failed refused told = (told.0, record { step = told.1.step; same = told.1.same; damages = told.1.damages; asks = told.1.asks })
   answers_alike (KeysOf t answer) failed refused told = ((told.0.0, told.0.1, alike told.0.2), told.1)
   answers_alike (StatusOf t answer) failed refused told = ((told.0.0, told.0.1, alike told.0.2), told.1)
   answers_alike (Charged count) failed refused told = ((told.0.0, told.0.1, alike told.0.2), told.1)
@@ -132,6 +137,11 @@ refused_seen t old new None told is = is
 refused_seen t old new (Some refusal) told is = (is.0, ap (seen t) is.1)
 
 -- a look never wants memory
+pub committed_wants_none : {A : Type 0} (answer : Result A CommittedFault) → false ≡ by_memory (cause_by committed_refusal answer)
+committed_wants_none (Ok found) = refl
+committed_wants_none (Err committed_faults.Device) = refl
+committed_wants_none (Err (committed_faults.Damaged page)) = refl
+
 pub get_wants_none : {A : Type 0} (answer : Result A GetFault) → false ≡ by_memory (cause_by get_refusal answer)
 get_wants_none (Ok found) = refl
 get_wants_none (Err get_faults.NoSuchTx) = refl

@@ -11,7 +11,7 @@ use Rattle.rec_types.proofs.ContentsLemmas.{same_contents, get-set_to-here, get-
 use Rattle.tx_log.specs.Transactions.{Transactions, is_open, fresh}
 use Rattle.record_file.specs.Abstract.{File, open_of, tx_of, with_change}
 use Rattle.record_file.specs.Steps.{active_refusal, key_refusal}
-use Rattle.record_file.specs.Runs.{Called, Event, Seen, Run, Begin, Put, Claim, Remove, Get, Savepoint, Release, RollbackTo, Abort, Resume, Commit, Entries, KeysOf, StatusOf, Charged, Begun, LogLen, LogUse, RecordAt, IntoTable}
+use Rattle.record_file.specs.Runs.{Called, Event, Seen, Run, Begin, Put, Claim, Remove, Get, Savepoint, Release, RollbackTo, Abort, Resume, Commit, Entries, Beside, EntriesBeside, CommittedAt, KeysOf, StatusOf, Charged, Begun, LogLen, LogUse, RecordAt, IntoTable}
 use Rattle.rec_types.specs.declared.transaction.TxId.{TxId}
 use Rattle.record_file.specs.Undo.{Starts, old_record, quiet}
 use Rattle.record_file.specs.Remaining.{begins_or_commits}
@@ -125,7 +125,7 @@ aborted o p t ends (c ∷ h) m = at (eqb c.tx t) c.live refl refl (aborted o p t
         apart false = ih (applied c m)
 
 -- where only an open transaction has live changes at a key, those that have ended have none
-none_ended : (o : ℕ → Bool) (t : ℕ) (x : List ℕ) (cs : List Kept) → o t ≡ true → OnlyOf t x cs → NoneLiveAt x (ended o (history_of cs))
+pub none_ended : (o : ℕ → Bool) (t : ℕ) (x : List ℕ) (cs : List Kept) → o t ≡ true → OnlyOf t x cs → NoneLiveAt x (ended o (history_of cs))
 none_ended o t x [] opened only = tt
 none_ended o t x (d ∷ ds) opened only = at (o d.tx) refl (none_ended o t x ds opened only.1)
   where
@@ -191,6 +191,9 @@ no_writes f (Resume t answer) es quiet keeps = keeps
 no_writes f (Commit t (Ok done)) es quiet keeps = absurd (cc)
 no_writes f (Commit t (Err fault)) es quiet keeps = keeps
 no_writes f (Entries answer) es quiet keeps = keeps
+no_writes f (Beside side gap answer) es quiet keeps = keeps
+no_writes f (EntriesBeside side gap answer) es quiet keeps = keeps
+no_writes f (CommittedAt x answer) es quiet keeps = keeps
 no_writes f (KeysOf t answer) es quiet keeps = keeps
 no_writes f (StatusOf t answer) es quiet keeps = keeps
 no_writes f (Charged count) es quiet keeps = keeps
@@ -285,6 +288,9 @@ kept_by f (Resume t answer) = ([], refl)
 kept_by f (Commit t (Ok done)) = (writes (own t.0 f.history), λ m. writes-replay m (own t.0 f.history))
 kept_by f (Commit t (Err fault)) = ([], refl)
 kept_by f (Entries answer) = ([], refl)
+kept_by f (Beside side gap answer) = ([], refl)
+kept_by f (EntriesBeside side gap answer) = ([], refl)
+kept_by f (CommittedAt x answer) = ([], refl)
 kept_by f (KeysOf t answer) = ([], refl)
 kept_by f (StatusOf t answer) = ([], refl)
 kept_by f (Charged count) = ([], refl)

@@ -13,6 +13,7 @@ pub mod OwnedLemmas
 pub mod OwnerLemmas
 pub mod CallKindLemmas
 pub mod CommitLemmas
+pub mod CommittedLemmas
 pub mod RunLemmas
 pub mod UndoLemmas
 pub mod HistoryLeadLemmas
@@ -30,3 +31,4 @@ pub mod AskedLemmas
 pub mod TakenLemmas
 pub mod ResumedLemmas
 pub mod AcceptedLemmas
+pub mod AtMostLemmas

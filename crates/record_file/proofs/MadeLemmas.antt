@@ -2,18 +2,19 @@
 use Rattle.std.proofs.Common.{◌≡◌, ◌<◌, ℕ, Bool, true, false, not, is_some, is_none, List, Option, Some, None, Result, Ok, Err, refl, sym, ap, subst, ◌∙◌, IsTrue, IfSome, IfOk, IfErr, OnErr, inl}
 use Rattle.std.specs.Global.{Vec}
 use Rattle.std.specs.FinMap as maps
-use Rattle.rec_types.specs.Calls.{with_list}
+use Rattle.rec_types.specs.Calls.{with_get, with_list}
 use Rattle.rec_types.specs.History.{log_len}
 use Rattle.rec_types.specs.Table.{counted, greatest_count}
 use Rattle.rec_types.specs.declared.table_state.TableState.{Ghosts}
 use Rattle.rec_types.specs.declared.transaction.TxId.{TxId}
 use Rattle.rec_types.specs.declared.transaction.Entry.{Entry}
-use Rattle.record_file.specs.Abstract.{OpenFile, charged_of, use_of, is_full, records_of}
+use Rattle.record_file.specs.Abstract.{OpenFile, open_of, charged_of, use_of, is_full, records_of}
+use Rattle.tx_log.specs.Owners.{owner_of}
 use Rattle.record_file.specs.Asked.{Asks, MayPut, MayRemove, UndoAsks, looked_unless}
 use Rattle.record_file.specs.Outside.{by_device, by_memory, named_by, NeverDamaged}
-use Rattle.record_file.specs.Refusals.{put_refusal, claim_refusal, remove_refusal, get_refusal, rollback_refusal, abort_refusal, resume_refusal, entries_refusal, refusal_by, cause_by, cause_in_refusal, by_file}
-use Rattle.record_file.specs.Runs.{Called, Answers, SparesFile, Made, cause_in, seen, Begin, Put, Claim, Remove, Get, Savepoint, Release, RollbackTo, Abort, Resume, Commit, Entries, KeysOf, StatusOf, Charged, Begun, LogLen, LogUse, RecordAt}
-use Rattle.record_file.specs.Steps.{rose, key_refusal, tx_refusal, returning_refusal, resuming_refusal, Accepts, key_change, BeginStep, PutStep, ClaimStep, RemoveStep, GetStep, SavepointStep, ReleaseStep, CommitStep, RollsBackTo, Aborts, Resumes, EntriesStep, TellOwners, KeysOfStep, RefusedFor, status_of, listed}
+use Rattle.record_file.specs.Refusals.{put_refusal, claim_refusal, remove_refusal, get_refusal, rollback_refusal, abort_refusal, resume_refusal, committed_refusal, entries_refusal, refusal_by, cause_by, cause_in_refusal, by_file}
+use Rattle.record_file.specs.Runs.{Called, Answers, SparesFile, Made, cause_in, seen, Begin, Put, Claim, Remove, Get, Savepoint, Release, RollbackTo, Abort, Resume, Commit, Entries, Beside, EntriesBeside, CommittedAt, KeysOf, StatusOf, Charged, Begun, LogLen, LogUse, RecordAt}
+use Rattle.record_file.specs.Steps.{rose, key_refusal, tx_refusal, returning_refusal, resuming_refusal, Accepts, key_change, BeginStep, PutStep, ClaimStep, RemoveStep, GetStep, SavepointStep, ReleaseStep, CommitStep, RollsBackTo, Aborts, Resumes, EntriesStep, EntriesBesideStep, BesideStep, CommittedStep, TellsOwner, TellOwners, KeysOfStep, RefusedFor, status_of, listed}
 use Rattle.record_file.specs.TableCalls.{ChangesTable, KeepsTable, LeavesLog}
 use Rattle.record_file.specs.declared.fault.PutFault.{PutFault}
 use Rattle.record_file.specs.declared.fault.ClaimFault.{ClaimFault}
@@ -25,6 +26,9 @@ use Rattle.record_file.specs.declared.fault.RollbackToFault.{RollbackToFault}
 use Rattle.record_file.specs.declared.fault.AbortFault.{AbortFault}
 use Rattle.record_file.specs.declared.fault.ResumeFault.{ResumeFault}
 use Rattle.record_file.specs.declared.fault.CommitFault.{CommitFault}
+use Rattle.rec_types.specs.declared.gap.Gap.{Gap}
+use Rattle.rec_types.specs.declared.side.Side.{Side}
+use Rattle.record_file.specs.declared.fault.CommittedFault.{CommittedFault}
 use Rattle.record_file.specs.declared.fault.EntriesFault.{EntriesFault}
 use Rattle.record_file.specs.declared.fault.KeysOfFault.{KeysOfFault}
 use Rattle.record_file.specs.declared.fault.StatusFault.{StatusFault}
@@ -35,7 +39,7 @@ use Rattle.record_file.specs.declared.refusal.Refusal.TheVariants as refusals
 use Rattle.tx_log.specs.Log.{record_at}
 use Rattle.tx_log.specs.declared.log_record.LogRecord.{LogRecord}
 use Rattle.tx_log.specs.declared.phase.BeginFault.{BeginFault}
-use Rattle.record_file.proofs.CallStepLemmas.{get_wants_none, keeping, names_none, refused_seen, same_but_file}
+use Rattle.record_file.proofs.CallStepLemmas.{get_wants_none, committed_wants_none, keeping, names_none, refused_seen, same_but_file}
 use Rattle.record_file.proofs.AskedLemmas.{key_by_file, looking, without_cause}
 use Rattle.record_file.proofs.FaultLemmas.{rose_same}
 use Rattle.record_file.proofs.LogGrowthLemmas.{tells_none}
@@ -200,6 +204,35 @@ module _ {T : Type 0} (t : Ghosts T) (old new : OpenFile T) where
       leaves_made (Entries (Ok list.items)) memory.0 table memory.1 damaged ((refl, memory.2), record { owners = owners; step = step; same = table.same; damages = table.damages; asks = asks }) tt
   entries_made (Err fault) step owners table memory damaged asks =
       leaves_made (Entries (Err fault)) memory.0 table memory.1 damaged ((refl, memory.2), record { owners = tt; step = step; same = table.same; damages = table.damages; asks = asks }) tt
+
+  -- a list of the records on a side of a gap, as it goes to a sink
+  pub list_beside_made : (side : Side) (gap : Gap) (answer : Result (List Entry) EntriesFault)
+      → (IsTrue (t.sound old.table) → t.device_failures old.table < greatest_count → EntriesBesideStep old.file side gap (rose (t.device_failures old.table) (t.device_failures new.table)) answer new.file)
+      → IfOk answer (TellOwners old.file)
+      → LeavesTable t old (cause_by entries_refusal answer) new → t.memory_refusals new.table ≡ counted (t.memory_refusals old.table) (by_memory (cause_by entries_refusal answer)) → NeverDamaged (t.sound old.table) (cause_by entries_refusal answer)
+      → t.calls new.table ≡ with_list (t.calls old.table)
+      → Made t old (EntriesBeside side gap answer) new
+  list_beside_made side gap answer step owners table memory damaged asks =
+      leaves_made (EntriesBeside side gap answer) (by_memory (cause_by entries_refusal answer)) table memory damaged ((refl, refl), record { owners = owners; step = step; same = table.same; damages = table.damages; asks = asks }) tt
+
+  -- a look at the record that is committed at a key
+  pub committed_made : (x : List ℕ) (answer : Result (Option (List ℕ)) CommittedFault)
+      → (IsTrue (t.sound old.table) → t.device_failures old.table < greatest_count → CommittedStep old.file x (rose (t.device_failures old.table) (t.device_failures new.table)) answer new.file)
+      → LeavesTable t old (cause_by committed_refusal answer) new → t.memory_refusals new.table ≡ t.memory_refusals old.table → NeverDamaged (t.sound old.table) (cause_by committed_refusal answer)
+      → t.calls new.table ≡ looked_unless (is_some (owner_of (open_of old.file) old.file.history x)) (t.calls old.table)
+      → Made t old (CommittedAt x answer) new
+  committed_made x answer step table memory damaged asks =
+      leaves_made (CommittedAt x answer) false table memory damaged ((refl, committed_wants_none answer), record { step = step; same = table.same; damages = table.damages; asks = asks }) tt
+
+  -- a look at the record beside a gap
+  pub beside_made : (side : Side) (gap : Gap) (answer : Result (Option Entry) EntriesFault)
+      → (IsTrue (t.sound old.table) → t.device_failures old.table < greatest_count → BesideStep old.file side gap (rose (t.device_failures old.table) (t.device_failures new.table)) answer new.file)
+      → IfOk answer (TellsOwner old.file)
+      → LeavesTable t old (cause_by entries_refusal answer) new → t.memory_refusals new.table ≡ counted (t.memory_refusals old.table) (by_memory (cause_by entries_refusal answer)) → NeverDamaged (t.sound old.table) (cause_by entries_refusal answer)
+      → t.calls new.table ≡ with_get (t.calls old.table)
+      → Made t old (Beside side gap answer) new
+  beside_made side gap answer step owner table memory damaged asks =
+      leaves_made (Beside side gap answer) (by_memory (cause_by entries_refusal answer)) table memory damaged ((refl, refl), record { owner = owner; step = step; same = table.same; damages = table.damages; asks = asks }) tt
 
   -- a call that asks the table nothing
   quiet_made : (called : Called) → cause_in called ≡ None → KeepsTable old new → LeavesLog old new → Answers (seen t old) called (by_device (cause_in called)) false (seen t new) → SparesFile old called new → Made t old called new

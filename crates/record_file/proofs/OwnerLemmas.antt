@@ -1,5 +1,5 @@
 -- A key has one owner.
-use Rattle.std.proofs.Common.{◌≡◌, ℕ, ◌≤◌, Bool, true, false, cond, ◌&&◌, ◌||◌, ◌==◌, eqb, List, [], ◌∷◌, map, Some, refl, sym, ap, subst, ◌∙◌, arith}
+use Rattle.std.proofs.Common.{◌≡◌, ℕ, ◌≤◌, Bool, true, false, cond, ◌&&◌, ◌||◌, ◌==◌, eqb, List, [], ◌∷◌, map, Some, None, Option, option_map, refl, sym, ap, subst, ◌∙◌, arith}
 use Rattle.std.proofs.lemmas.Bool.Decides.{nat_tests}
 use Rattle.std.specs.List.{list_any}
 use Rattle.rec_types.specs.Contents.{same_key}
@@ -59,3 +59,8 @@ kept_file sound now limit log is kept chained = record {
 pub tell_owners : (is_open : ℕ → Bool) (h : List Change) (rs : List (List ℕ × List ℕ)) → map (entry_with is_open h) rs ≡ map (λ (e : Entry). entry_with is_open h (e.key, e.value)) (map (entry_with is_open h) rs)
 tell_owners is_open h [] = refl
 tell_owners is_open h (r ∷ rs) = ap (λ (es : List Entry). entry_with is_open h r ∷ es) (tell_owners is_open h rs)
+
+-- an entry of a record that was found tells of its owner
+pub tells_owner : (is_open : ℕ → Bool) (history : List Change) (found : Option (List ℕ × List ℕ)) → option_map (entry_with is_open history) found ≡ option_map (λ (e : Entry). entry_with is_open history (e.key, e.value)) (option_map (entry_with is_open history) found)
+tells_owner is_open history None = refl
+tells_owner is_open history (Some e) = refl

@@ -12,7 +12,7 @@ use Rattle.tx_log.specs.declared.phase.Phase.TheVariants as phases
 use Rattle.tx_log.specs.declared.phase.Rollback.{Rollback}
 use Rattle.record_file.specs.Abstract.{File, phase_at, tx_of}
 use Rattle.record_file.specs.Resumed.{StopsFirst, Finishes, TakesWhole}
-use Rattle.record_file.specs.Runs.{Called, Event, Seen, Run, Answers, IsKeptSeen, Begin, Put, Claim, Remove, Get, Savepoint, Release, RollbackTo, Abort, Resume, Commit, Entries, KeysOf, StatusOf, Charged, Begun, LogLen, LogUse, RecordAt, IntoTable}
+use Rattle.record_file.specs.Runs.{Called, Event, Seen, Run, Answers, IsKeptSeen, Begin, Put, Claim, Remove, Get, Savepoint, Release, RollbackTo, Abort, Resume, Commit, Entries, Beside, EntriesBeside, CommittedAt, KeysOf, StatusOf, Charged, Begun, LogLen, LogUse, RecordAt, IntoTable}
 use Rattle.record_file.specs.Steps.{active_refusal, tx_refusal, places_at, rolling_place}
 use Rattle.record_file.specs.declared.refusal.Refusal.{Refusal}
 use Rattle.record_file.specs.declared.fault.AbortFault.TheVariants as abort_faults
@@ -149,6 +149,9 @@ module _ (t p : ℕ) where
       moves old.file under new.file old.file.history _ (ap (λ (f : File). f.history) step.1.1) (ap (λ (f : File). f.txs) step.1.1) (removed old.file under q.0 differ) (stays_same t p old.file.history)
   passes old new (Commit q (Err fault)) failed refused kept under unfinished step = still old.file under new.file step.1.1
   passes old new (Entries answer) failed refused kept under unfinished step = still old.file under new.file step.1.same.1
+  passes old new (Beside side gap answer) failed refused kept under unfinished step = still old.file under new.file step.1.same.1
+  passes old new (EntriesBeside side gap answer) failed refused kept under unfinished step = still old.file under new.file step.1.same.1
+  passes old new (CommittedAt x answer) failed refused kept under unfinished step = still old.file under new.file step.1.same.1
   passes old new (KeysOf q answer) failed refused kept under unfinished step = still old.file under new.file (ap (λ (s : Seen). s.file) step.0.2)
   passes old new (StatusOf q answer) failed refused kept under unfinished step = still old.file under new.file (ap (λ (s : Seen). s.file) step.0.2)
   passes old new (Charged count) failed refused kept under unfinished step = still old.file under new.file (ap (λ (s : Seen). s.file) step.0.2)

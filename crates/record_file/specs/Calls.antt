@@ -5,7 +5,7 @@ use Rattle.record_file.specs.declared.call.Call.TheVariants as call
 use Rattle.record_file.specs.declared.call.Answer.{Answer}
 use Rattle.record_file.specs.declared.call.Answer.TheVariants as answer
 use Rattle.record_file.specs.Steps.{listed}
-use Rattle.record_file.specs.Runs.{Called, Event, Seen, Step, Run, Begin, Put, Claim, Remove, Get, Savepoint, Release, RollbackTo, Abort, Resume, Commit, Entries, KeysOf, StatusOf, Charged, Begun, LogLen, LogUse, RecordAt}
+use Rattle.record_file.specs.Runs.{Called, Event, Seen, Step, Run, Begin, Put, Claim, Remove, Get, Savepoint, Release, RollbackTo, Abort, Resume, Commit, Entries, Beside, CommittedAt, KeysOf, StatusOf, Charged, Begun, LogLen, LogUse, RecordAt}
 
 -- the call and its answer, as a run tells of them; a call has no other answer
 abbrev pub TellsOf : Call → Answer → Called → Type 0
@@ -21,6 +21,8 @@ TellsOf (call.Abort t) (answer.Abort told) called = called ≡ Abort t told
 TellsOf (call.Resume t) (answer.Resume told) called = called ≡ Resume t told
 TellsOf (call.Commit t) (answer.Commit told) called = called ≡ Commit t told
 TellsOf call.Entries (answer.Entries told) called = called ≡ Entries (listed told)
+TellsOf (call.Beside side gap) (answer.Beside told) called = called ≡ Beside side gap told
+TellsOf (call.Committed x) (answer.Committed told) called = called ≡ CommittedAt x told
 TellsOf (call.KeysOf t) (answer.KeysOf told) called = called ≡ KeysOf t (listed told)
 TellsOf (call.Status t) (answer.Status told) called = called ≡ StatusOf t told
 TellsOf call.Charged (answer.Charged told) called = called ≡ Charged told

@@ -1,7 +1,7 @@
 -- What the commits of a run make of the records that it began with, without the transactions that haven't committed.
-use Rattle.std.specs.Prelude.{◌≡◌, ℕ, Bool, not, List, [], ◌∷◌, ◌++◌, filter, Option, Some, None, Result, Ok, Err, IsTrue, true, false}
+use Rattle.std.specs.Prelude.{◌≡◌, ℕ, Bool, List, [], ◌∷◌, ◌++◌, Option, Some, None, Result, Ok, Err, IsTrue, true, false}
 use Rattle.rec_types.specs.Contents.{Contents, set_to}
-use Rattle.rec_types.specs.History.{Change, replay}
+use Rattle.rec_types.specs.History.{replay}
 use Rattle.tx_log.specs.Written.{own, writes}
 use Rattle.record_file.specs.declared.fault.ChangesFault.{ChangesFault}
 use Rattle.record_file.specs.declared.fault.ChangesFault.TheVariants as changes_faults
@@ -9,7 +9,8 @@ use Rattle.record_file.specs.declared.fault.CommitFault.TheVariants as commit_fa
 use Rattle.record_file.specs.declared.keeper.KeepFault.{KeepFault}
 use Rattle.record_file.specs.declared.keeper.KeepFault.TheVariants as keep_faults
 use Rattle.record_file.specs.declared.keeper.KeeperFault.{KeeperFault}
-use Rattle.record_file.specs.Abstract.{File, open_of}
+use Rattle.record_file.specs.Abstract.{File}
+pub use Rattle.record_file.specs.Committed.{has_ended, ended, committed}
 use Rattle.record_file.specs.Refusals.{changes_refusal}
 use Rattle.record_file.specs.Steps.{tx_refusal, CommitStep}
 use Rattle.record_file.specs.Runs.{Called, Event, Seen, Step, Commit}
@@ -18,17 +19,6 @@ use Rattle.record_file.specs.Runs.{Called, Event, Seen, Step, Commit}
 abbrev pub overlay : Contents → List (List ℕ × Option (List ℕ)) → Contents
 overlay m [] = m
 overlay m (e ∷ es) = overlay (set_to m e.0 e.1) es
-
-abbrev pub has_ended : (ℕ → Bool) → Change → Bool
-has_ended is_open c = not (is_open c.tx)
-
--- the changes of transactions that have ended
-abbrev pub ended : (ℕ → Bool) → List Change → List Change
-ended is_open h = filter (has_ended is_open) h
-
--- The records with the changes of each transaction left out that hasn't ended. Of one that was aborted nothing is live.
-abbrev pub committed : File → Contents
-committed f = replay f.opening (ended (open_of f) f.history)
 
 -- what a call has to keep: an accepted commit what does the same as the live changes of its transaction, whatever stood
 -- there before; any other call nothing

@@ -10,8 +10,10 @@ pub mod Undo
 pub mod Remaining
 pub mod Leads
 pub mod Calls
+pub mod Committed
 pub mod Durable
 pub mod Exact
 pub mod Examples
 pub mod Asked
+pub mod AtMost
 pub mod Resumed

@@ -25,6 +25,8 @@ use Rattle.record_file.specs.declared.fault.ResumeFault.{ResumeFault}
 use Rattle.record_file.specs.declared.fault.ResumeFault.TheVariants as resume_faults
 use Rattle.record_file.specs.declared.fault.CommitFault.{CommitFault}
 use Rattle.record_file.specs.declared.fault.CommitFault.TheVariants as commit_faults
+use Rattle.record_file.specs.declared.fault.CommittedFault.{CommittedFault}
+use Rattle.record_file.specs.declared.fault.CommittedFault.TheVariants as committed_faults
 use Rattle.record_file.specs.declared.fault.EntriesFault.{EntriesFault}
 use Rattle.record_file.specs.declared.fault.EntriesFault.TheVariants as entries_faults
 use Rattle.record_file.specs.declared.fault.KeysOfFault.{KeysOfFault}
@@ -110,6 +112,10 @@ resume_refusal (resume_faults.Stopped undone left cause) = refusals.Stopped undo
 abbrev pub commit_refusal : CommitFault → Refusal
 commit_refusal commit_faults.NoSuchTx = refusals.NoSuchTx
 commit_refusal commit_faults.Rolling = refusals.Rolling
+
+abbrev pub committed_refusal : CommittedFault → Refusal
+committed_refusal committed_faults.Device = refusals.Failed causes.Device
+committed_refusal (committed_faults.Damaged page) = refusals.Failed (causes.Damaged page)
 
 abbrev pub entries_refusal : EntriesFault → Refusal
 entries_refusal entries_faults.Device = refusals.Failed causes.Device

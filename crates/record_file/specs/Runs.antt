@@ -2,7 +2,7 @@
 use Rattle.std.specs.Prelude.{◌≡◌, ◌≢◌, ℕ, ◌<◌, Bool, true, false, List, [], ◌∷◌, Option, Some, None, is_some, Result, Ok, IsTrue, IfSome, IfOk, IfErr, OnErr}
 use Rattle.std.specs.FinMap as maps
 use Rattle.rec_types.specs.History.{log_len}
-use Rattle.rec_types.specs.Calls.{with_list}
+use Rattle.rec_types.specs.Calls.{with_get, with_list}
 use Rattle.rec_types.specs.Table.{counted, greatest_count}
 use Rattle.rec_types.specs.declared.transaction.TxId.{TxId}
 use Rattle.rec_types.specs.declared.transaction.Entry.{Entry}
@@ -19,18 +19,22 @@ use Rattle.record_file.specs.declared.fault.RollbackToFault.{RollbackToFault}
 use Rattle.record_file.specs.declared.fault.AbortFault.{AbortFault}
 use Rattle.record_file.specs.declared.fault.ResumeFault.{ResumeFault}
 use Rattle.record_file.specs.declared.fault.CommitFault.{CommitFault}
+use Rattle.rec_types.specs.declared.gap.Gap.{Gap}
+use Rattle.rec_types.specs.declared.side.Side.{Side}
+use Rattle.record_file.specs.declared.fault.CommittedFault.{CommittedFault}
 use Rattle.record_file.specs.declared.fault.EntriesFault.{EntriesFault}
 use Rattle.record_file.specs.declared.fault.KeysOfFault.{KeysOfFault}
 use Rattle.record_file.specs.declared.fault.StatusFault.{StatusFault}
 use Rattle.record_file.specs.declared.fault.Status.{Status}
 use Rattle.rec_types.specs.declared.table_state.TableState.{Ghosts}
-use Rattle.record_file.specs.Abstract.{File, OpenFile, IsKeptFile, Tells, charged_of, use_of}
+use Rattle.record_file.specs.Abstract.{File, OpenFile, IsKeptFile, Tells, open_of, charged_of, use_of}
+use Rattle.tx_log.specs.Owners.{owner_of}
 use Rattle.record_file.specs.Asked.{Asks, MayPut, MayRemove, UndoAsks, looked_unless}
 use Rattle.record_file.specs.Outside.{by_device, by_memory, named_by, TellsDamage, NeverDamaged}
-use Rattle.record_file.specs.Refusals.{put_refusal, claim_refusal, remove_refusal, get_refusal, rollback_refusal, abort_refusal, resume_refusal, entries_refusal, refusal_by, cause_by, by_file}
+use Rattle.record_file.specs.Refusals.{put_refusal, claim_refusal, remove_refusal, get_refusal, rollback_refusal, abort_refusal, resume_refusal, committed_refusal, entries_refusal, refusal_by, cause_by, by_file}
 use Rattle.record_file.specs.declared.fault.Cause.{Cause}
 pub use Rattle.record_file.specs.Seen.{Seen, seen, seen_as, undoubted}
-use Rattle.record_file.specs.Steps.{rose, key_refusal, tx_refusal, returning_refusal, resuming_refusal, Accepts, key_change, BeginStep, PutStep, ClaimStep, RemoveStep, GetStep, SavepointStep, ReleaseStep, CommitStep, RollsBackTo, RollbackToStep, Aborts, AbortStep, Resumes, ResumeStep, EntriesStep, TellOwners, KeysOfStep, status_of}
+use Rattle.record_file.specs.Steps.{rose, key_refusal, tx_refusal, returning_refusal, resuming_refusal, Accepts, key_change, BeginStep, PutStep, ClaimStep, RemoveStep, GetStep, SavepointStep, ReleaseStep, CommitStep, RollsBackTo, RollbackToStep, Aborts, AbortStep, Resumes, ResumeStep, EntriesStep, EntriesBesideStep, BesideStep, CommittedStep, TellsOwner, TellOwners, KeysOfStep, status_of}
 use Rattle.record_file.specs.TableCalls.{KeepsTable, LeavesLog}
 
 -- a call with its arguments, and what it answered
@@ -47,6 +51,9 @@ pub data Called : Type 0 where
   Resume : TxId → Result ℕ ResumeFault → Called
   Commit : TxId → Result (Unit {0}) CommitFault → Called
   Entries : Result (List Entry) EntriesFault → Called
+  Beside : Side → Gap → Result (Option Entry) EntriesFault → Called
+  EntriesBeside : Side → Gap → Result (List Entry) EntriesFault → Called
+  CommittedAt : List ℕ → Result (Option (List ℕ)) CommittedFault → Called
   KeysOf : TxId → Result (List (List ℕ)) KeysOfFault → Called
   StatusOf : TxId → Result Status StatusFault → Called
   Charged : ℕ → Called
@@ -76,6 +83,9 @@ cause_in (RollbackTo t n answer) = cause_by rollback_refusal answer
 cause_in (Abort t answer) = cause_by abort_refusal answer
 cause_in (Resume t answer) = cause_by resume_refusal answer
 cause_in (Entries answer) = cause_by entries_refusal answer
+cause_in (Beside side gap answer) = cause_by entries_refusal answer
+cause_in (EntriesBeside side gap answer) = cause_by entries_refusal answer
+cause_in (CommittedAt x answer) = cause_by committed_refusal answer
 cause_in called = None
 
 -- The call asks the table nothing, and leaves all but the abstract file.
@@ -171,6 +181,29 @@ pub record Lists (old : Seen) (answer : Result (List Entry) EntriesFault) (new :
   pub damages : new.damages ≡ named_by old.damages (cause_by entries_refusal answer)
   pub asks : new.calls ≡ with_list old.calls
 
+-- a look at the record beside a gap
+pub record Neighbours (old : Seen) (side : Side) (gap : Gap) (answer : Result (Option Entry) EntriesFault) (new : Seen) : Type 0 where
+  pub owner : IfOk answer (TellsOwner old.file)
+  pub step : IsTrue old.sound → old.failures < greatest_count → BesideStep old.file side gap (rose old.failures new.failures) answer new.file
+  pub same : Leaves old new
+  pub damages : new.damages ≡ named_by old.damages (cause_by entries_refusal answer)
+  pub asks : new.calls ≡ with_get old.calls
+
+-- a list of the records on a side of a gap
+pub record ListsBeside (old : Seen) (side : Side) (gap : Gap) (answer : Result (List Entry) EntriesFault) (new : Seen) : Type 0 where
+  pub owners : IfOk answer (TellOwners old.file)
+  pub step : IsTrue old.sound → old.failures < greatest_count → EntriesBesideStep old.file side gap (rose old.failures new.failures) answer new.file
+  pub same : Leaves old new
+  pub damages : new.damages ≡ named_by old.damages (cause_by entries_refusal answer)
+  pub asks : new.calls ≡ with_list old.calls
+
+-- a look at the record that is committed at a key: at that of a key that is owned the table isn't asked
+pub record LooksCommitted (old : Seen) (x : List ℕ) (answer : Result (Option (List ℕ)) CommittedFault) (new : Seen) : Type 0 where
+  pub step : IsTrue old.sound → old.failures < greatest_count → CommittedStep old.file x (rose old.failures new.failures) answer new.file
+  pub same : Leaves old new
+  pub damages : new.damages ≡ named_by old.damages (cause_by committed_refusal answer)
+  pub asks : new.calls ≡ looked_unless (is_some (owner_of (open_of old.file) old.file.history x)) old.calls
+
 -- the table is given out once no transaction is open, and else the file comes back with the number of those that are
 abbrev pub GivesTable : File → Option ℕ → Type 0
 GivesTable f None = maps.len f.txs ≡ 0
@@ -190,6 +223,9 @@ Answers old (Abort t answer) failed refused new = IsCaused (cause_by abort_refus
 Answers old (Resume t answer) failed refused new = IsCaused (cause_by resume_refusal answer) failed refused × IsResumed old t answer new
 Answers old (Commit t answer) failed refused new = AsksKeeping old failed refused new × CommitStep old.file t.0 answer new.file
 Answers old (Entries answer) failed refused new = IsCausedOrLog (cause_by entries_refusal answer) failed refused × Lists old answer new
+Answers old (Beside side gap answer) failed refused new = IsCaused (cause_by entries_refusal answer) failed refused × Neighbours old side gap answer new
+Answers old (EntriesBeside side gap answer) failed refused new = IsCaused (cause_by entries_refusal answer) failed refused × ListsBeside old side gap answer new
+Answers old (CommittedAt x answer) failed refused new = IsCaused (cause_by committed_refusal answer) failed refused × LooksCommitted old x answer new
 Answers old (KeysOf t answer) failed refused new = LooksOnly old failed refused new × KeysOfStep old.file t.0 answer
 Answers old (StatusOf t answer) failed refused new = LooksOnly old failed refused new × (answer ≡ status_of old.file t.0)
 Answers old (Charged count) failed refused new = LooksOnly old failed refused new × (IsTrue old.sound → count ≡ maps.len (charged_of old.file))
@@ -245,6 +281,9 @@ SparesFile old (RollbackTo t n answer) new = IfSome (returning_refusal old.file 
 SparesFile old (Abort t answer) new = IfSome (tx_refusal old.file t.0 None) (λ _. new ≡ old)
 SparesFile old (Resume t answer) new = IfSome (resuming_refusal old.file t.0) (λ _. new ≡ old)
 SparesFile old (Entries answer) new = Unit {0}
+SparesFile old (Beside side gap answer) new = Unit {0}
+SparesFile old (EntriesBeside side gap answer) new = Unit {0}
+SparesFile old (CommittedAt x answer) new = Unit {0}
 SparesFile old called new = KeepsTable old new × LeavesLog old new
 
 -- From old the call has this answer, and leads to new. A run sees it happen, whether or not the table refused memory in it; what

@@ -27,6 +27,12 @@ use Rattle.record_file.specs.declared.fault.RollbackToFault.{RollbackToFault}
 use Rattle.record_file.specs.declared.fault.AbortFault.{AbortFault}
 use Rattle.record_file.specs.declared.fault.ResumeFault.{ResumeFault}
 use Rattle.record_file.specs.declared.fault.CommitFault.{CommitFault}
+use Rattle.rec_types.specs.Ordered.{beside, all_beside}
+use Rattle.record_file.specs.Committed.{committed}
+use Rattle.record_file.specs.declared.fault.CommittedFault.{CommittedFault}
+use Rattle.record_file.specs.declared.fault.CommittedFault.TheVariants as committed_faults
+use Rattle.rec_types.specs.declared.gap.Gap.{Gap}
+use Rattle.rec_types.specs.declared.side.Side.{Side}
 use Rattle.record_file.specs.declared.fault.EntriesFault.{EntriesFault}
 use Rattle.record_file.specs.declared.fault.EntriesFault.TheVariants as entries_faults
 use Rattle.record_file.specs.declared.fault.KeysOfFault.{KeysOfFault}
@@ -274,6 +280,36 @@ EntriesStep old failed (Ok entries) new = (failed ≡ false) × (entries ≡ ent
 EntriesStep old failed (Err entries_faults.Device) new = (failed ≡ true) × (new ≡ old)
 EntriesStep old failed (Err entries_faults.Memory) new = (failed ≡ false) × (new ≡ old)
 EntriesStep old failed (Err (entries_faults.Damaged page)) new = ⊥
+
+-- the record that would stand at a key if every open transaction went back to its beginning
+abbrev pub CommittedStep : File → List ℕ → Bool → Result (Option (List ℕ)) CommittedFault → File → Type 0
+CommittedStep old x failed (Ok found) new = (failed ≡ false) × (found ≡ maps.get (committed old) x) × (new ≡ old)
+CommittedStep old x failed (Err committed_faults.Device) new = (failed ≡ true) × (new ≡ old)
+CommittedStep old x failed (Err (committed_faults.Damaged page)) new = ⊥
+
+-- the entries on a side of a gap, the nearest first
+abbrev pub entries_beside : File → Side → Gap → List Entry
+entries_beside f side gap = map (entry_of f) (all_beside side (records_of f) gap)
+
+abbrev pub EntriesBesideStep : File → Side → Gap → Bool → Result (List Entry) EntriesFault → File → Type 0
+EntriesBesideStep old side gap failed (Ok entries) new = (failed ≡ false) × (entries ≡ entries_beside old side gap) × (new ≡ old)
+EntriesBesideStep old side gap failed (Err entries_faults.Device) new = (failed ≡ true) × (new ≡ old)
+EntriesBesideStep old side gap failed (Err entries_faults.Memory) new = (failed ≡ false) × (new ≡ old)
+EntriesBesideStep old side gap failed (Err (entries_faults.Damaged page)) new = ⊥
+
+-- the entry of the record beside a gap
+abbrev pub entry_beside : File → Side → Gap → Option Entry
+entry_beside f side gap = option_map (entry_of f) (beside side (records_of f) gap)
+
+-- An entry tells of the owner of its key, whatever its record is.
+abbrev pub TellsOwner : File → Option Entry → Type 0
+TellsOwner f found = found ≡ option_map (λ e. entry_of f (e.key, e.value)) found
+
+abbrev pub BesideStep : File → Side → Gap → Bool → Result (Option Entry) EntriesFault → File → Type 0
+BesideStep old side gap failed (Ok found) new = (failed ≡ false) × (found ≡ entry_beside old side gap) × (new ≡ old)
+BesideStep old side gap failed (Err entries_faults.Device) new = (failed ≡ true) × (new ≡ old)
+BesideStep old side gap failed (Err entries_faults.Memory) new = (failed ≡ false) × (new ≡ old)
+BesideStep old side gap failed (Err (entries_faults.Damaged page)) new = ⊥
 
 abbrev pub KeysOfStep : File → ℕ → Result (List (List ℕ)) KeysOfFault → Type 0
 KeysOfStep f t (Ok keys) = (IsSome (tx_of f t)) × (keys ≡ keys_owned (open_of f) f.history t)

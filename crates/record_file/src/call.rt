@@ -7,10 +7,11 @@ ghost use Rattle.record_file.specs.declared.call.Answer.{Answer};
 
 use crate::RecordFile;
 use crate::fault::{
-    AbortFault, ClaimFault, CommitFault, EntriesFault, GetFault, KeysOfFault, PutFault,
-    ReleaseFault, RemoveFault, ResumeFault, RollbackToFault, SavepointFault, Status, StatusFault,
+    AbortFault, ClaimFault, CommitFault, CommittedFault, EntriesFault, GetFault, KeysOfFault,
+    PutFault, ReleaseFault, RemoveFault, ResumeFault, RollbackToFault, SavepointFault, Status,
+    StatusFault,
 };
-use rec_types::{Entry, Key, Memory, Record, Table, TxId};
+use rec_types::{Entry, Gap, Key, Memory, Record, Side, Table, TxId};
 use std::alloc::Global;
 use tx_log::{BeginFault, LogRecord};
 
@@ -29,6 +30,8 @@ pub enum Call {
     Resume(TxId),
     Commit(TxId),
     Entries,
+    Beside(Side, Gap),
+    Committed(Key),
     KeysOf(TxId),
     Status(TxId),
     Charged,
@@ -53,6 +56,8 @@ pub enum Answer {
     Resume(Result<u32, ResumeFault>),
     Commit(Result<(), CommitFault>),
     Entries(Result<Vec<Entry>, EntriesFault>),
+    Beside(Result<Option<Entry>, EntriesFault>),
+    Committed(Result<Option<Record>, CommittedFault>),
     KeysOf(Result<Vec<Key>, KeysOfFault>),
     Status(Result<Status, StatusFault>),
     Charged(u64),
@@ -98,6 +103,8 @@ fn ask<T: Table>(file: &mut RecordFile<T>, call: Call) -> Answer
         Call::Resume(tx) => Answer::Resume(file.resume(tx)),
         Call::Commit(tx) => Answer::Commit(file.commit(tx)),
         Call::Entries => Answer::Entries(file.entries()),
+        Call::Beside(side, gap) => Answer::Beside(file.beside(side, &gap)),
+        Call::Committed(key) => Answer::Committed(file.committed(&key)),
         Call::KeysOf(tx) => Answer::KeysOf(file.keys_of(tx)),
         Call::Status(tx) => Answer::Status(file.status(tx)),
         Call::Charged => Answer::Charged(file.charged()),

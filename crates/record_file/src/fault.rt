@@ -1,6 +1,6 @@
 ghost use Rattle.std.specs.Prelude.{◌≡◌};
 ghost use Rattle.record_file.specs.Outside.{cause_of, look_cause};
-ghost use Rattle.record_file.specs.Refusals.{put_refusal, claim_refusal, remove_refusal, get_refusal, entries_refusal};
+ghost use Rattle.record_file.specs.Refusals.{put_refusal, claim_refusal, remove_refusal, get_refusal, committed_refusal, entries_refusal};
 ghost use Rattle.record_file.specs.declared.refusal.Refusal.TheVariants.{Failed};
 
 use crate::refusal::ToRefusal;
@@ -146,6 +146,14 @@ pub enum CommitFault {
     Rolling,
 }
 
+/// Why the committed record wasn't told.
+#[derive(Clone, Copy, Debug, PartialEq, Eq, Error)]
+#[error("{}", self.to_refusal())]
+pub enum CommittedFault {
+    Device,
+    Damaged(u32),
+}
+
 /// Why the records weren't listed.
 #[derive(Clone, Copy, Debug, PartialEq, Eq, Error)]
 #[error("{}", self.to_refusal())]
@@ -245,6 +253,18 @@ impl From<TableFault> for EntriesFault {
             Cause::Device => EntriesFault::Device,
             Cause::Damaged(page) => EntriesFault::Damaged(page),
             Cause::Memory => EntriesFault::Memory,
+        }
+    }
+}
+
+impl From<TableFault> for CommittedFault {
+    ghost from_gives = { λ fault told. committed_refusal told ≡ Failed (look_cause fault) };
+
+    // A look wants neither room nor memory.
+    fn from(fault: TableFault) -> CommittedFault {
+        match fault {
+            TableFault::Damaged(page) => CommittedFault::Damaged(page),
+            TableFault::Device | TableFault::NoRoom | TableFault::Memory => CommittedFault::Device,
         }
     }
 }

@@ -7,6 +7,7 @@ ghost use Rattle.record_file.specs.TableCalls.{LeavesLog, SameTable};
 ghost use Rattle.tx_log.specs.Written.{own, writes};
 
 mod changes;
+mod fronts;
 mod looks;
 mod owned;
 mod refusals;

@@ -16,7 +16,9 @@ ghost use Rattle.tx_log.specs.Written.{writes};
 ghost use Rattle.record_file.specs.Durable.{CommitsKept, Keeps, committed, overlay};
 ghost use Rattle.record_file.specs.Exact.{IsExact, CompensatesOnce, one};
 ghost use Rattle.record_file.specs.Examples.{owned_at_a, entries_at_a_and_b};
+ghost use Rattle.record_file.specs.AtMost.{IsLimitedTo, StopsWithin, limited_to};
 ghost use Rattle.record_file.specs.OwnedRecords.{GoesTo};
+ghost use Rattle.record_file.specs.declared.at_most.SinkStop.TheVariants.{Enough};
 ghost use Rattle.record_file.specs.Resumed.{StopsFirst, Finishes, TakesWhole, CompensatesTake};
 ghost use Rattle.record_file.specs.Remaining.{NothingFails, remaining};
 ghost use Rattle.record_file.specs.Undo.{Starts, old_records, quiet, wrote, claimed};
@@ -38,11 +40,12 @@ ghost use Rattle.record_file.specs.declared.fault.RollbackToFault.{RollbackToFau
 ghost use Rattle.record_file.specs.declared.fault.AbortFault.{AbortFault};
 ghost use Rattle.record_file.specs.declared.fault.ResumeFault.{ResumeFault};
 ghost use Rattle.record_file.specs.declared.fault.CommitFault.{CommitFault};
+ghost use Rattle.record_file.specs.declared.fault.CommittedFault.{CommittedFault};
 ghost use Rattle.record_file.specs.declared.fault.EntriesFault.{EntriesFault};
 ghost use Rattle.record_file.specs.declared.fault.KeysOfFault.{KeysOfFault};
 ghost use Rattle.record_file.specs.declared.fault.ChangesFault.{ChangesFault};
 ghost use Rattle.record_file.specs.declared.fault.PutFault.TheVariants as put_faults;
-ghost use Rattle.record_file.specs.Refusals.{begin_refusal, put_refusal, claim_refusal, remove_refusal, get_refusal, savepoint_refusal, release_refusal, rollback_refusal, abort_refusal, resume_refusal, commit_refusal, entries_refusal, keys_of_refusal, changes_refusal};
+ghost use Rattle.record_file.specs.Refusals.{begin_refusal, put_refusal, claim_refusal, remove_refusal, get_refusal, savepoint_refusal, release_refusal, rollback_refusal, abort_refusal, resume_refusal, commit_refusal, committed_refusal, entries_refusal, keys_of_refusal, changes_refusal};
 ghost use Rattle.record_file.specs.declared.fault.RollbackToFault.TheVariants as rollback_faults;
 ghost use Rattle.record_file.specs.declared.fault.EntriesFault.TheVariants as entries_faults;
 
@@ -200,6 +203,23 @@ pub fn lists_told_by_example()
         (Err entries_faults.Device) (Ok (Ok tt)) → ⊥ }
 {}
 
+/// The first so many of two entries by example. A sink that is to take one has enough of them: it took the first, and neither
+/// both nor the second; one that is to take three has not.
+pub fn first_entries_by_example()
+    ensures one { limited_to {E = ℕ} 1 (Ok entries_at_a_and_b) ≡ Ok (owned_at_a ∷ []) }
+    ensures none { limited_to {E = ℕ} 0 (Ok entries_at_a_and_b) ≡ Ok [] }
+    ensures all { limited_to {E = ℕ} 3 (Ok entries_at_a_and_b) ≡ Ok entries_at_a_and_b }
+    ensures enough { StopsWithin {F = ℕ} (λ es. es ≡ owned_at_a ∷ []) (λ _ _. ⊥)
+        1 entries_at_a_and_b Enough }
+    ensures both { StopsWithin {F = ℕ} (λ es. es ≡ entries_at_a_and_b) (λ _ _. ⊥)
+        1 entries_at_a_and_b Enough → ⊥ }
+    ensures too_soon { StopsWithin {F = ℕ} (λ _. Unit {0}) (λ _ _. ⊥)
+        3 entries_at_a_and_b Enough → ⊥ }
+    ensures refused { IsLimitedTo 1 (Ok entries_at_a_and_b) (Err entries_faults.Memory) }
+    ensures other { IsLimitedTo 1 (Ok entries_at_a_and_b) (Ok entries_at_a_and_b) → ⊥ }
+    ensures other_fault { IsLimitedTo 1 (Ok entries_at_a_and_b) (Err entries_faults.Device) → ⊥ }
+{}
+
 /// No two faults of a call are the same refusal, so a refusal tells which fault a call has.
 pub fn faults_are_told_apart()
     ensures begin { (a b : BeginFault) → begin_refusal a ≡ begin_refusal b → a ≡ b }
@@ -213,6 +233,7 @@ pub fn faults_are_told_apart()
     ensures abort { (a b : AbortFault) → abort_refusal a ≡ abort_refusal b → a ≡ b }
     ensures resume { (a b : ResumeFault) → resume_refusal a ≡ resume_refusal b → a ≡ b }
     ensures commit { (a b : CommitFault) → commit_refusal a ≡ commit_refusal b → a ≡ b }
+    ensures committed { (a b : CommittedFault) → committed_refusal a ≡ committed_refusal b → a ≡ b }
     ensures entries { (a b : EntriesFault) → entries_refusal a ≡ entries_refusal b → a ≡ b }
     ensures keys_of { (a b : KeysOfFault) → keys_of_refusal a ≡ keys_of_refusal b → a ≡ b }
     ensures changes_of { (a b : ChangesFault) → changes_refusal a ≡ changes_refusal b → a ≡ b }

@@ -1,10 +1,11 @@
 ghost use Rattle.std.specs.Prelude.{◌≡◌};
 ghost use Rattle.record_file.specs.declared.refusal.Refusal.{Refusal};
-ghost use Rattle.record_file.specs.Refusals.{begin_refusal, put_refusal, claim_refusal, remove_refusal, get_refusal, savepoint_refusal, release_refusal, rollback_refusal, abort_refusal, resume_refusal, commit_refusal, entries_refusal, keys_of_refusal, changes_refusal, status_refusal};
+ghost use Rattle.record_file.specs.Refusals.{begin_refusal, put_refusal, claim_refusal, remove_refusal, get_refusal, savepoint_refusal, release_refusal, rollback_refusal, abort_refusal, resume_refusal, commit_refusal, committed_refusal, entries_refusal, keys_of_refusal, changes_refusal, status_refusal};
 
 use crate::fault::{
-    AbortFault, Cause, ChangesFault, ClaimFault, CommitFault, EntriesFault, GetFault, KeysOfFault,
-    PutFault, ReleaseFault, RemoveFault, ResumeFault, RollbackToFault, SavepointFault, StatusFault,
+    AbortFault, Cause, ChangesFault, ClaimFault, CommitFault, CommittedFault, EntriesFault,
+    GetFault, KeysOfFault, PutFault, ReleaseFault, RemoveFault, ResumeFault, RollbackToFault,
+    SavepointFault, StatusFault,
 };
 use rec_types::TxId;
 use thiserror::Error;
@@ -231,6 +232,18 @@ impl ToRefusal for CommitFault {
         match self {
             CommitFault::NoSuchTx => Refusal::NoSuchTx,
             CommitFault::Rolling => Refusal::Rolling,
+        }
+    }
+}
+
+impl ToRefusal for CommittedFault {
+    ghost refusal_of = { committed_refusal };
+
+    #[inline]
+    fn to_refusal(self) -> Refusal {
+        match self {
+            CommittedFault::Device => Refusal::Failed(Cause::Device),
+            CommittedFault::Damaged(page) => Refusal::Failed(Cause::Damaged(page)),
         }
     }
 }

@@ -17,6 +17,7 @@ pub mod OpenTxReadLemmas
 pub mod LogStateLemmas
 pub mod LogStepLemmas
 pub mod WalkSteps
+pub mod OldestLemmas
 pub mod OpenCount
 pub mod RemainingLemmas
 pub mod PlaceOf

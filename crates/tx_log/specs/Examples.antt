@@ -1,6 +1,7 @@
 -- Logs by example.
-use Rattle.std.specs.Prelude.{ℕ, true, List, [], ◌∷◌, Some, None}
+use Rattle.std.specs.Prelude.{ℕ, Bool, true, List, [], ◌∷◌, Option, Some, None}
 use Rattle.std.specs.FinMap as maps
+use Rattle.rec_types.specs.Kept.{Kept}
 use Rattle.rec_types.specs.declared.transaction.TxId.{TxId}
 use Rattle.tx_log.specs.LogState.{LogState, rolling_to}
 use Rattle.tx_log.specs.Transactions.{fresh}
@@ -40,6 +41,10 @@ nine =
     ∷ Unclaim 8 7 one (byte 98) 2
     ∷ Unclaim 9 8 one (byte 97) 1
     ∷ []
+
+-- A change of the first transaction at a, where this stood before: it writes [w] there, or was taken back.
+abbrev pub changed_a : Option (List ℕ) → ℕ → Bool → Kept
+changed_a before w live = record { lsn = w; tx = 1; key = byte 97; before = before; after = Some (Some (byte w)); live = live }
 
 -- Three transactions: the first has written a, the second is being rolled back, and the third has written nothing. The log
 -- may have n records.

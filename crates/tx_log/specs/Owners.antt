@@ -21,6 +21,11 @@ other_than t (Some u) = if u == t then None else Some u
 abbrev pub holder_of : (ℕ → Bool) → List Change → ℕ → List ℕ → Option ℕ
 holder_of is_open h t x = other_than t (owner_of is_open h x)
 
+-- what stood at a key before the oldest live change there of an open transaction, or what that claim has seen; nothing where there is none
+abbrev pub before_owned : (ℕ → Bool) → List Kept → List ℕ → Option (Option (List ℕ))
+before_owned is_open [] x = None
+before_owned is_open (c ∷ cs) x = if claims is_open x (change_of c) then Some c.before else before_owned is_open cs x
+
 -- the contents, and beside them each owned key
 abbrev pub charged : (ℕ → Bool) → List Change → Contents → Contents
 charged is_open [] m = m

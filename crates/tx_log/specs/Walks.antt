@@ -40,3 +40,8 @@ is_out (Some w) was = not (is_some w)
 abbrev pub absent_at : List ℕ → List LogRecord → Bool
 absent_at k [] = false
 absent_at k (u ∷ us) = if is_at k u then is_out (says (new_of u) (list_any (is_at k) us) (old_of u)) (absent_at k us) else absent_at k us
+
+-- what stood at a key before the oldest of the changes there, which stand newest first, or what was found before
+abbrev pub oldest_at : List ℕ → List LogRecord → Option (Option (List ℕ)) → Option (Option (List ℕ))
+oldest_at k [] found = found
+oldest_at k (u ∷ us) found = oldest_at k us (if is_at k u then Some (old_of u) else found)

@@ -1,10 +1,11 @@
 ghost use Rattle.std.specs.Prelude.{◌≡◌, ℕ, ◌≤◌, Bool, true, false, List, [], ◌∷◌, Some, None, map, reverse, take};
 ghost use Rattle.rec_types.specs.History.{Change, undo_last, take_back, take_newest, log_use};
-ghost use Rattle.tx_log.specs.Examples.{eight, nine, one, byte, with_a_written};
+ghost use Rattle.tx_log.specs.Examples.{eight, nine, one, byte, changed_a, with_a_written};
 ghost use Rattle.tx_log.specs.Log.{chain, lsn_of, kept_of, IsNumbered, AllWritten};
 ghost use Rattle.rec_types.specs.Kept.{Kept};
 ghost use Rattle.tx_log.specs.LogLaws.{IsChained};
 ghost use Rattle.tx_log.specs.LogRefusals.{look_refusal_in, change_refusal_in};
+ghost use Rattle.tx_log.specs.Owners.{before_owned};
 ghost use Rattle.tx_log.specs.Walks.{absent_at};
 ghost use Rattle.tx_log.specs.declared.log_record.LogRecord.TheVariants.{Update, Compensation, Unclaim};
 ghost use Rattle.tx_log.specs.declared.refusal.ChangeRefusal.TheVariants.{NoSuchTx, Rolling, Held, LogFull};
@@ -91,6 +92,21 @@ pub fn a_part_uses_no_more()
     ensures of_two { log_use (λ _. true) (taken_back_at 1 97 ∷ out_of 2 98 ∷ []) ≡ 4 }
     ensures of_one { log_use (λ _. true) (out_of 2 98 ∷ []) ≡ 2 }
     ensures taken { IsPart (taken_back_at 1 97 ∷ []) (taken_back_at 1 97 ∷ []) → ⊥ }
+{}
+
+/// What stood at a key before its owner came is told by the owner's first live change there, not by the newest, and by the
+/// next one where the first was taken back; of a transaction that has ended, and at another key, there is none.
+pub fn before_the_owner()
+    ensures first { before_owned (λ _. true) (changed_a None 49 true ∷ changed_a (Some (byte 49)) 50 true ∷ []) (byte 97)
+        ≡ Some None }
+    ensures newest { before_owned (λ _. true)
+        (changed_a None 49 true ∷ changed_a (Some (byte 49)) 50 true ∷ []) (byte 97)
+        ≡ Some (Some (byte 49)) → ⊥ }
+    ensures taken_back { before_owned (λ _. true)
+        (changed_a None 49 false ∷ changed_a (Some (byte 49)) 50 true ∷ []) (byte 97)
+        ≡ Some (Some (byte 49)) }
+    ensures ended { before_owned (λ _. false) (changed_a None 49 true ∷ []) (byte 97) ≡ None }
+    ensures elsewhere { before_owned (λ _. true) (changed_a None 49 true ∷ []) (byte 98) ≡ None }
 {}
 
 /// At a key that one of three transactions owns, over a log without room, each is refused for the first cause that it has:

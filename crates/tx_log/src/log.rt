@@ -4,7 +4,7 @@ ghost use Rattle.rec_types.specs.History.{log_len, own_count};
 ghost use Rattle.tx_log.specs.Log.{record_at};
 ghost use Rattle.tx_log.specs.LogLaws.{IsChained};
 ghost use Rattle.tx_log.specs.Transactions.{depth_of, live_in, left_in, fresh, most_savepoints};
-ghost use Rattle.tx_log.specs.Owners.{owner_of, holder_of, keys_owned, keys_absent};
+ghost use Rattle.tx_log.specs.Owners.{owner_of, holder_of, before_owned, keys_owned, keys_absent};
 ghost use Rattle.tx_log.specs.Written.{own, writes};
 ghost use Rattle.tx_log.specs.LogState.{new_log, history_in, open_in, tx_in, use_in, phase_in, undo_in, undo_step, places_in, active_with, rolling_to, finished, with_txs, with_update, with_compensation, IsRolling, IsLog, IsActive};
 
@@ -15,7 +15,9 @@ use crate::open_tx::{OpenTx, OpenTxs, find_open, place_of, recount, take_out};
 use crate::phase::Rollback;
 use crate::records::Records;
 use crate::told::is_lacking;
-use crate::undo_chain::{changed_records, count_changes, newest_above, newest_change};
+use crate::undo_chain::{
+    changed_records, count_changes, newest_above, newest_change, oldest_before,
+};
 use crate::{BeginFault, LogRecord, Phase, UndoStep};
 use rec_types::{Key, Limits, Memory, Record, TxId};
 use std::alloc::Global;
@@ -113,6 +115,17 @@ impl TxLog {
             ≡ owner_of (open_in self.now) (history_in self.now) key.now }
     {
         find_holder(&self.holdings, key)
+    }
+
+    /// What stood at the key before the oldest live change there of the transaction that owns it, or what that claim has seen;
+    /// nothing where no transaction owns it.
+    pub fn before_owned(&self, key: &Key) -> Option<Option<Record>>
+        ensures value { result ≡ before_owned (open_in self.now) self.now.changes key.now }
+        ensures kept { IsLog self.now }
+    {
+        let owner = find_holder(&self.holdings, key)?;
+        let open_tx = find_open(&self.txs, owner)?;
+        oldest_before(&self.records, open_tx.last, key)
     }
 
     /// How many owned keys have no record now.

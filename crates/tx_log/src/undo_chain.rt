@@ -1,8 +1,9 @@
-ghost use Rattle.std.specs.Prelude.{◌≡◌, ℕ, ◌+◌, ◌<◌, true, [], ◌++◌, List, length, reverse, map, Option, option_map, Some, cond, IfOk, OnOk};
+ghost use Rattle.std.specs.Prelude.{◌≡◌, ℕ, ◌+◌, ◌<◌, true, [], ◌++◌, List, length, reverse, map, Option, option_map, Some, None, cond, if◌then◌else◌, IfOk, OnOk};
 ghost use Rattle.std.specs.List.{filter};
+ghost use Rattle.rec_types.specs.Contents.{same_key};
 ghost use Rattle.tx_log.specs.Log.{chain, key_of_record};
 ghost use Rattle.tx_log.specs.Marks.{CanWalk};
-ghost use Rattle.tx_log.specs.Walks.{link_of, newest_in, is_after, step_to};
+ghost use Rattle.tx_log.specs.Walks.{link_of, newest_in, is_after, oldest_at, step_to};
 ghost use Rattle.tx_log.specs.Written.{written_by, writes_if};
 
 use crate::UndoStep;
@@ -146,4 +147,30 @@ pub fn changed_records(
         at = change.prev;
     }
     Ok(written)
+}
+
+// What stood at a key before a change there, or what was found before the change is met.
+fn older(change: &LiveChange, key: &Key, found: Option<Option<Record>>) -> Option<Option<Record>>
+    ensures { result ≡ (if same_key change.now.key key.now then Some change.now.before else found) }
+{
+    if change.key == *key {
+        Some(change.before)
+    } else {
+        found
+    }
+}
+
+/// What stood at a key before the oldest change there that isn't taken back, or what that claim has seen, on the way down
+/// from the record with the number `from`; nothing where none is there.
+pub fn oldest_before(log: &Records, from: u32, key: &Key) -> Option<Option<Record>>
+    requires { CanWalk log.now.items log.now.marks from }
+    ensures { result ≡ oldest_at key.now (chain (reverse log.now.items) from) None }
+{
+    let mut oldest = None;
+    let mut at = from;
+    while let Some(change) = newest_change(log, at) {
+        oldest = older(&change, key, oldest);
+        at = change.prev;
+    }
+    oldest
 }

@@ -1,6 +1,6 @@
 ghost use Rattle.std.specs.Prelude.{◌≡◌, ◌≢◌, ◌+◌, ◌-◌, ◌<◌, ◌≤◌, ◌↔◌, ℕ, List, Option, Some, None, true, false, IsTrue, IsOk, IfOk, Ok, Err, MatchResult};
 ghost use Rattle.rec_types.specs.LimitBounds.{most_records};
-ghost use Rattle.rec_types.specs.Table.{NeverFull, counted, is_device};
+ghost use Rattle.rec_types.specs.Table.{NeverFull, counted, is_device, NeedsNoMemory};
 ghost use Rattle.page_store.specs.PageMap.{at};
 ghost use Rattle.page_store.specs.PagesView.{OnlyReads};
 ghost use Rattle.btree_node.specs.Lists.{Element};
@@ -35,7 +35,7 @@ fn is_full_for<S: Store>(
         → MatchResult result
         (λ full. IsTrue full ↔ ((lookup_in key.now es ≡ None) × (limit ≤ tree.now.count)))
         (λ fault. fault ≡ TableFault.Device) }
-    ensures no_memory { result ≢ Err TableFault.Memory }
+    ensures no_memory { NeedsNoMemory result }
     ensures no_room { NeverFull result }
     ensures device { pages.new.failures ≡ counted pages.old.failures (is_device result) }
     ensures unchanged { OnlyReads pages.old pages.new }

@@ -1,10 +1,11 @@
-ghost use Rattle.std.specs.Prelude.{◌≡◌, ◌≢◌, ◌⊎◌, ℕ, ◌<◌, ◌≤◌, List, length, true, false, IsTrue, Ok, Err, IsOk, ◌+◌, ◌-◌, None, IsSome, is_none, OnErr, IfOk, IfErr, OnOk, MatchResult};
+ghost use Rattle.std.specs.Prelude.{◌≡◌, ◌≢◌, ◌⊎◌, ℕ, ◌<◌, ◌≤◌, List, length, true, false, IsTrue, Ok, Err, IsOk, ◌+◌, ◌-◌, ◌*◌, None, IsSome, is_none, OnErr, IfOk, IfErr, OnOk, MatchResult};
 ghost use Rattle.std.specs.FinMap as maps;
+ghost use Rattle.rec_types.specs.Ordered.{beside, all_beside};
 ghost use Rattle.rec_types.specs.Contents.{Contents, set_to};
 ghost use Rattle.rec_types.specs.Answered.{Answered};
-ghost use Rattle.rec_types.specs.Calls.{with_get, with_set, with_list};
+ghost use Rattle.rec_types.specs.Calls.{with_get, with_set, with_list, CountsList};
 ghost use Rattle.rec_types.specs.LimitBounds.{most_records};
-ghost use Rattle.rec_types.specs.Table.{NeverFull, counted, is_device as is_device_answer};
+ghost use Rattle.rec_types.specs.Table.{NeverFull, counted, is_device as is_device_answer, NeedsNoMemory};
 ghost use Rattle.page_store.specs.FreeNumbers.{free_numbers};
 ghost use Rattle.btree_node.specs.Lists.{Element};
 ghost use Rattle.btree_node.specs.declared.header.Header.{Header as HeaderValue};
@@ -30,11 +31,11 @@ mod sealing;
 use crate::opening::open_file::{OpenStop, open_file};
 use crate::table::change::change;
 use crate::table::fault_counts::{FaultCounts, NO_FAULTS, told};
-use btree_insert::{Tree, look_up, tell, walk};
+use btree_insert::{Tree, look_up, nearest, tell, tell_beside, walk};
 use btree_node::{GREATEST_ORDER, Header, SECOND_VERSION, write_header};
 use page_store::{PageEdit, Pages, Store, WriteFault};
 use rec_types::{
-    Key, Limits, NO_CALLS, Record, RecordSink, Table, TableCalls, TableFault, TableState,
+    Gap, Key, Limits, NO_CALLS, Record, RecordSink, Side, Table, TableCalls, TableFault, TableState,
 };
 use std::alloc::Global;
 use std::collections::BTreeSet;
@@ -334,7 +335,7 @@ impl<S: Store> Table for TreeTable<S> {
         ensures value { IsTrue self.old.pages.steady
             → IfOk result (λ found. found ≡ maps.get (table_contents self.old) key.now) }
         ensures same { table_contents self.new ≡ table_contents self.old }
-        ensures no_memory { result ≢ Err TableFault.Memory }
+        ensures no_memory { NeedsNoMemory result }
         ensures no_room { NeverFull result }
         ensures answered { Answered ⟦<TreeTable<S> as TableState>⟧ self.old result self.new }
         ensures calls { self.new.calls ≡ with_get self.old.calls }
@@ -346,6 +347,29 @@ impl<S: Store> Table for TreeTable<S> {
         ensures reads { self.new.pages.reads ≤ self.old.pages.reads + self.old.tree.height }
     {
         let found = told(look_up(&mut self.pages, &self.tree, key));
+        self.faults.note(&found);
+        self.calls.note_get();
+        found
+    }
+
+    /// The record nearest to a gap on a side of it, with its key. It makes at most as many reads of the store as the tree has
+    /// levels. Faults: Device, Damaged. It takes no memory, and no page changes.
+    fn beside(&mut self, side: Side, gap: &Gap) -> Result<Option<(Key, Record)>, TableFault>
+        ensures value { IsTrue self.old.pages.steady
+            → IfOk result (λ found. found ≡ beside side (table_contents self.old) gap.now) }
+        ensures same { table_contents self.new ≡ table_contents self.old }
+        ensures no_memory { NeedsNoMemory result }
+        ensures no_room { NeverFull result }
+        ensures answered { Answered ⟦<TreeTable<S> as TableState>⟧ self.old result self.new }
+        ensures calls { self.new.calls ≡ with_get self.old.calls }
+        ensures rest { self.new ≡ record self.old {
+          pages = with_reads self.old.pages self.new.pages;
+          damages = self.new.damages;
+          calls = self.new.calls;
+        } }
+        ensures reads { self.new.pages.reads ≤ self.old.pages.reads + self.old.tree.height }
+    {
+        let found = told(nearest(&mut self.pages, &self.tree, side, gap));
         self.faults.note(&found);
         self.calls.note_get();
         found
@@ -406,7 +430,7 @@ impl<S: Store> Table for TreeTable<S> {
         ensures same { table_contents self.new ≡ table_contents self.old }
         ensures no_room { NeverFull result }
         ensures answered { Answered ⟦<TreeTable<S> as TableState>⟧ self.old result self.new }
-        ensures calls { self.new.calls ≡ with_list self.old.calls }
+        ensures calls { CountsList self.old.calls self.new.calls }
         ensures rest { self.new ≡ record self.old {
           pages = with_reads self.old.pages self.new.pages;
           refusals = self.new.refusals;
@@ -438,7 +462,7 @@ impl<S: Store> Table for TreeTable<S> {
         ensures same { table_contents self.new ≡ table_contents self.old }
         ensures no_room { NeverFull result }
         ensures answered { Answered ⟦<TreeTable<S> as TableState>⟧ self.old result self.new }
-        ensures calls { self.new.calls ≡ with_list self.old.calls }
+        ensures calls { CountsList self.old.calls self.new.calls }
         ensures all { IsTrue self.old.pages.steady
             → TellsAll TableFault.Device (λ xs. K.told sink.old out.old xs sink.new out.new)
             (λ xs fault. K.stops sink.old out.old xs fault sink.new out.new)
@@ -453,6 +477,42 @@ impl<S: Store> Table for TreeTable<S> {
         ensures reads { self.new.pages.reads ≤ self.old.pages.reads + self.old.tree.used }
     {
         let answer = told(tell(&mut self.pages, &self.tree, sink, out));
+        self.faults.note(&answer);
+        self.calls.note_list();
+        answer
+    }
+
+    /// Tells a sink the records on a side of a gap, the nearest first. For each leaf that it comes to it makes at most as many
+    /// reads of the store as the tree has levels, and it holds one page. Inside, the fault at which the sink stopped. Faults:
+    /// Device, Damaged; the sink was told those before the page then. It takes no memory, and no page changes.
+    fn tell_beside<O, K: RecordSink<O>>(
+        &mut self,
+        side: Side,
+        gap: &Gap,
+        sink: &mut K,
+        out: &mut O,
+    ) -> Result<Result<(), K::Fault>, TableFault>
+        ensures told { IsTrue self.old.pages.steady
+            → TellsUntil (λ xs. K.told sink.old out.old xs sink.new out.new)
+            (λ xs fault. K.stops sink.old out.old xs fault sink.new out.new)
+            (all_beside side (table_contents self.old) gap.now) result }
+        ensures some { TellsSome (λ xs. K.told sink.old out.old xs sink.new out.new)
+            (λ xs fault. K.stops sink.old out.old xs fault sink.new out.new) result }
+        ensures same { table_contents self.new ≡ table_contents self.old }
+        ensures no_room { NeverFull result }
+        ensures answered { Answered ⟦<TreeTable<S> as TableState>⟧ self.old result self.new }
+        ensures calls { CountsList self.old.calls self.new.calls }
+        ensures faults { IfErr result (λ fault. (fault ≡ TableFault.Device)
+            ⊎ ((page : ℕ) × (fault ≡ TableFault.Damaged page))) }
+        ensures rest { self.new ≡ record self.old {
+          pages = with_reads self.old.pages self.new.pages;
+          damages = self.new.damages;
+          calls = self.new.calls;
+        } }
+        ensures reads { self.new.pages.reads
+            ≤ self.old.pages.reads + self.old.tree.height * (self.old.tree.count + 1) }
+    {
+        let answer = told(tell_beside(&mut self.pages, &self.tree, side, gap, sink, out));
         self.faults.note(&answer);
         self.calls.note_list();
         answer

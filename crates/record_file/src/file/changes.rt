@@ -1,6 +1,6 @@
 ghost use Rattle.std.specs.Prelude.{◌≡◌, ◌≢◌, ◌&&◌, Bool, not, is_none, Err, IsTrue, IfOk};
 ghost use Rattle.rec_types.specs.Answered.{Answered};
-ghost use Rattle.rec_types.specs.Table.{NeverFull};
+ghost use Rattle.rec_types.specs.Table.{NeverFull, NeedsNoMemory};
 ghost use Rattle.std.specs.FinMap as maps;
 ghost use Rattle.record_file.specs.Abstract.{is_full, records_of};
 ghost use Rattle.record_file.specs.Asked.{looked_unless, may_be_full};
@@ -70,7 +70,7 @@ impl<T: Table> RecordFile<T> {
             → IfOk result (λ full. full ≡ is_full self.old.file key.now) }
         ensures same { (T.contents self.new.table ≡ T.contents self.old.table)
             × (self.new.file ≡ self.old.file) × (self.new.log ≡ self.old.log) }
-        ensures no_memory { result ≢ Err TableFault.Memory }
+        ensures no_memory { NeedsNoMemory result }
         ensures no_room { NeverFull result }
         ensures answered { Answered T.TableState self.old.table result self.new.table }
         ensures looks { (looks : Bool)

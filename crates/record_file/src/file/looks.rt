@@ -1,19 +1,21 @@
-ghost use Rattle.std.specs.Prelude.{◌≡◌, List, Result, Ok, IsTrue, IfOk, IfErr, map};
+ghost use Rattle.std.specs.Prelude.{◌≡◌, List, Result, Ok, IsTrue, IfOk, IfErr, map, option_map};
 ghost use Rattle.std.specs.FinMap as maps;
 ghost use Rattle.rec_types.specs.Told.{TakesPart};
 ghost use Rattle.rec_types.specs.declared.transaction.Entry.{Entry as EntryValue};
-ghost use Rattle.record_file.specs.Abstract.{IsKeptFile};
+ghost use Rattle.record_file.specs.Abstract.{IsKeptFile, records_of};
 ghost use Rattle.tx_log.specs.LogState.{open_in, history_in};
 ghost use Rattle.record_file.specs.Durable.{ChangesStep, Keeps};
 ghost use Rattle.record_file.specs.OwnedRecords.{GoesTo};
-ghost use Rattle.record_file.specs.Runs.{Made, Get, Commit, Entries, KeysOf, StatusOf, Charged, Begun, LogLen, LogUse, RecordAt};
-ghost use Rattle.record_file.specs.Steps.{entries_of, entry_with, listed};
+ghost use Rattle.record_file.specs.Runs.{Made, Get, Commit, Entries, Beside, EntriesBeside, CommittedAt, KeysOf, StatusOf, Charged, Begun, LogLen, LogUse, RecordAt};
+ghost use Rattle.record_file.specs.Steps.{entries_of, entries_beside, entry_with, listed};
 
 use super::RecordFile;
 use super::owned::Owned;
 use crate::EntrySink;
-use crate::fault::{ChangesFault, EntriesFault, GetFault, KeysOfFault, Status, StatusFault};
-use rec_types::{Entry, Key, Memory, Record, Table, TxId};
+use crate::fault::{
+    ChangesFault, CommittedFault, EntriesFault, GetFault, KeysOfFault, Status, StatusFault,
+};
+use rec_types::{Entry, Gap, Key, Memory, Record, Side, Table, TxId};
 use std::alloc::Global;
 use tx_log::{LogRecord, Phase, TxLog};
 
@@ -36,6 +38,27 @@ impl<T: Table> RecordFile<T> {
         Ok(entries)
     }
 
+    /// The record nearest to a gap on a side of it, with the transaction that owns its key. Faults: Device or Damaged, Memory.
+    pub fn beside(&mut self, side: Side, gap: &Gap) -> Result<Option<Entry>, EntriesFault>
+        ensures { Made T.TableState self.old (Beside side gap.now result) self.new }
+    {
+        let found = self.table.beside(side, gap)?;
+        let entry = with_owner(&self.log, &found);
+        Ok(entry)
+    }
+
+    /// The record that would stand at the key if every open transaction went back to its beginning. Faults: Device or Damaged. It
+    /// takes no memory.
+    pub fn committed(&mut self, key: &Key) -> Result<Option<Record>, CommittedFault>
+        ensures { Made T.TableState self.old (CommittedAt key.now result) self.new }
+    {
+        if let Some(before) = self.log.before_owned(key) {
+            return Ok(before);
+        }
+        let found = self.table.get(key)?;
+        Ok(found)
+    }
+
     /// Tells a sink the records in key order, each with the transaction that owns its key, as `entries` lists them. Inside, the
     /// fault at which the sink stopped. Faults: Device or Damaged, Memory; the sink was told some of the entries then, from the
     /// first on.
@@ -49,6 +72,28 @@ impl<T: Table> RecordFile<T> {
     {
         let mut owned = Owned { log: &self.log };
         let taken = self.table.tell(&mut owned, sink)?;
+        Ok(taken)
+    }
+
+    /// Tells a sink the records on a side of a gap, the nearest first, each with the transaction that owns its key. Inside, the
+    /// fault at which the sink stopped. Faults: Device or Damaged, Memory; the sink was told some of the entries then, from
+    /// the nearest on.
+    pub fn tell_beside<K: EntrySink>(
+        &mut self,
+        side: Side,
+        gap: &Gap,
+        sink: &mut K,
+    ) -> Result<Result<(), K::Fault>, EntriesFault>
+        ensures told { (answer : Result (List EntryValue) EntriesFault)
+            × Made T.TableState self.old (EntriesBeside side gap.now answer) self.new
+            × GoesTo (λ es. K.told sink.old es sink.new) (λ es fault. K.stops sink.old es fault sink.new)
+            answer result }
+        ensures part { IsTrue (T.sound self.old.table) → IfErr result
+            (λ _. TakesPart (λ es. K.told sink.old es sink.new)
+            (entries_beside self.old.file side gap.now)) }
+    {
+        let mut owned = Owned { log: &self.log };
+        let taken = self.table.tell_beside(side, gap, &mut owned, sink)?;
         Ok(taken)
     }
 
@@ -118,6 +163,14 @@ impl<T: Table> RecordFile<T> {
         u64::from(self.table.count()) + u64::from(self.log.absent_owned())
     }
 
+    /// How many records there are. A table that isn't sound may count anything. It takes no memory.
+    pub fn count(&self) -> u32
+        ensures { IsTrue (T.sound self.now.table)
+            → result ≡ maps.len (records_of self.now.file) }
+    {
+        self.table.count()
+    }
+
     /// The length of the log.
     pub fn log_len(&self) -> u32
         ensures { Made T.TableState self.now (LogLen result) self.now }
@@ -137,6 +190,20 @@ impl<T: Table> RecordFile<T> {
         ensures { Made T.TableState self.now (RecordAt lsn result) self.now }
     {
         self.log.entry_at(lsn)
+    }
+}
+
+// A record that was found, with the transaction that owns its key.
+fn with_owner(log: &TxLog, found: &Option<(Key, Record)>) -> Option<Entry>
+    ensures { result ≡ option_map (entry_with (open_in log.now) (history_in log.now)) found.now }
+{
+    match found {
+        Some((key, value)) => Some(Entry {
+            key: *key,
+            value: *value,
+            owner: log.owner(key),
+        }),
+        None => None,
     }
 }
 

@@ -25,3 +25,17 @@ returns-clause-twice c = λ is. absurd (omega (arith, sum_by-IsPermutation (λ (
 -- there is one less
 pub returns-clause-left_out : goal.returns-clause-left_out
 returns-clause-left_out c = λ is. absurd (omega (arith, sum_by-IsPermutation (λ (place : ℕ). 1) _ _ is.all))
+
+abbrev first_two : List (List ℕ)
+first_two = (97 ∷ []) ∷ (98 ∷ []) ∷ []
+
+first_rising : (k : ℕ) (d : List ℕ) → 0 ≤ k → k + 1 < 2 → is_lt (slice_cmp nat_cmp (get_or first_two (k + 1) d) (get_or first_two k d)) ≡ false
+first_rising zero d some more = refl
+first_rising (suc k) d some more = absurd (omega (arith, more))
+
+pub returns-clause-first : goal.returns-clause-first
+returns-clause-first c = record { few = omega arith; order = record { all = IsPermutation-append_comm (0 ∷ []) (1 ∷ []); sorted = first_rising } }
+
+-- the places have another sum
+pub returns-clause-other : goal.returns-clause-other
+returns-clause-other c = λ is. absurd (omega (arith, sum_by-IsPermutation (λ (place : ℕ). place) _ _ is.order.all))

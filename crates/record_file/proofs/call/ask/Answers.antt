@@ -1,5 +1,5 @@
 use Rattle.std.proofs.Common.{refl, sym, subst}
-use Rattle.record_file.specs.Runs.{seen, Begin, Put, Claim, Remove, Get, Savepoint, Release, RollbackTo, Abort, Resume, Commit, Entries, KeysOf, StatusOf, Charged, Begun, LogLen, LogUse, RecordAt}
+use Rattle.record_file.specs.Runs.{seen, Begin, Put, Claim, Remove, Get, Savepoint, Release, RollbackTo, Abort, Resume, Commit, Entries, Beside, CommittedAt, KeysOf, StatusOf, Charged, Begun, LogLen, LogUse, RecordAt}
 use Rattle.record_file.specs.Steps.{listed}
 use Rattle.record_file.specs.declared.call.Call.{Call}
 use Rattle.record_file.specs.declared.call.Call.TheVariants as call
@@ -83,3 +83,11 @@ returns-in-LogRecord g c = λ was is. subst (λ (k : Call). Makes (seen g.T.Tabl
 pub returns-in-Entries : goal.returns-in-Entries
 returns-in-Entries g c = λ was is. subst (λ (k : Call). Makes (seen g.T.TableState c.args.file.now) k (answer.Entries c.entries.result) (seen g.T.TableState c.entries.new.self)) (sym c.in-Entries.is)
     (call_makes g.T.TableState c.args.file.now c.entries.new.self call.Entries (answer.Entries c.entries.result) (Entries (listed c.entries.result)) refl c.entries.ensures was is)
+
+pub returns-in-Beside : goal.returns-in-Beside
+returns-in-Beside g c = λ was is. subst (λ (k : Call). Makes (seen g.T.TableState c.args.file.now) k (answer.Beside c.beside.result) (seen g.T.TableState c.beside.new.self)) (sym c.in-Beside.is)
+    (call_makes g.T.TableState c.args.file.now c.beside.new.self (call.Beside c.in-Beside.side c.in-Beside.gap) (answer.Beside c.beside.result) (Beside c.in-Beside.side c.in-Beside.gap c.beside.result) refl c.beside.ensures was is)
+
+pub returns-in-Committed : goal.returns-in-Committed
+returns-in-Committed g c = λ was is. subst (λ (k : Call). Makes (seen g.T.TableState c.args.file.now) k (answer.Committed c.committed.result) (seen g.T.TableState c.committed.new.self)) (sym c.in-Committed.is)
+    (call_makes g.T.TableState c.args.file.now c.committed.new.self (call.Committed c.in-Committed.key) (answer.Committed c.committed.result) (CommittedAt c.in-Committed.key c.committed.result) refl c.committed.ensures was is)

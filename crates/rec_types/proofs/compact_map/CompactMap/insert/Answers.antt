@@ -4,7 +4,7 @@ use Rattle.std.specs.Option.{option_map}
 use Rattle.rec_types.specs.Slots.{AreInPlace, Slots, pairs_in, record_in, slot_at}
 use Rattle.rec_types.specs.Sorted.{Pairs, same_bytes}
 use Rattle.rec_types.specs.declared.slot.Slot.TheVariants.{Short, Long}
-use Rattle.rec_types.proofs.SlotLemmas.{changed, changed_records, change_seen, distinct_seen, found_place, keys_seen, length-pairs_in, length_seen, lengthened, lengthened_records, no_more_places, none_seen, on_err, record_seen, replaced, replaced_records, room_after, short_read, short_some}
+use Rattle.rec_types.proofs.SlotLemmas.{changed, changed_records, change_seen, distinct_seen, found_place, keys_seen, last_seen, length-pairs_in, length_seen, lengthened, lengthened_records, no_more_places, none_seen, none_short, on_err, record_seen, replaced, replaced_records, room_after, short_read, short_some}
 use Rattle.rec_types.proofs.compact_map.CompactMap.insert.Goals as goal
 use Rattle.rec_types.proofs.compact_map.CompactMap.insert.Goals.{After-len}
 
@@ -68,6 +68,10 @@ returns-then-is_short-clause-updates c = change_seen c.self.inside.slots.entries
     ap (λ (long : Pairs). option_map (record_in long) (slot_at c.put_slot.new.slots.entries q)) c.make_room.ensures.items
     ∙ changed_records (slot_at c.self.inside.slots.entries) (slot_at c.put_slot.new.slots.entries) c.self.inside.long.items c.args.key (Some (Short c.of-short.result)) c.in_ok-before.ensures.updates q
     ∙ ap (λ (r : List ℕ). cond (same_bytes c.args.key q) (Some r) (option_map (record_in c.self.inside.long.items) (slot_at c.self.inside.slots.entries q))) c.of-short.ensures)
+
+pub returns-then-is_short-clause-last : goal.returns-then-is_short-clause-last
+returns-then-is_short-clause-last c = λ none. last_seen c.self.inside.slots.entries c.put_slot.new.slots.entries c.self.inside.long.items c.make_room.new.long.items c.args.self.now c.self.view_is c.args.key
+    (c.in_ok-before.ensures.last (none_short (slot_at c.self.inside.slots.entries c.args.key) (sym c.long_place.ensures ∙ c.in_default.is) (sym c.in_ok-before.ensures.old ∙ none)))
 
 pub returns-then-is_short-clause-keys : goal.returns-then-is_short-clause-keys
 returns-then-is_short-clause-keys c = λ some. keys_seen c.self.inside.slots.entries c.put_slot.new.slots.entries c.self.inside.long.items c.make_room.new.long.items c.args.self.now c.self.view_is
@@ -138,6 +142,10 @@ returns-clause-updates c =
     change_seen c.self.inside.slots.entries c.put_slot-2.new.slots.entries c.self.inside.long.items c.push_reserved.new.self.items c.args.self.now c.self.view_is c.args.key (Some c.args.«record».now) (λ q.
     ap (λ (long : Pairs). option_map (record_in long) (slot_at c.put_slot-2.new.slots.entries q)) (c.push_reserved.ensures.items ∙ ap (λ (long : Pairs). long ++ (c.args.key, c.args.«record».now) ∷ []) c.make_room.ensures.items)
     ∙ read_after here c.put_slot-2.new.slots.entries c.in_ok-before-2.ensures.updates q)
+
+pub returns-clause-last : goal.returns-clause-last
+returns-clause-last c = λ none. last_seen c.self.inside.slots.entries c.put_slot-2.new.slots.entries c.self.inside.long.items c.push_reserved.new.self.items c.args.self.now c.self.view_is c.args.key
+    (c.in_ok-before-2.ensures.last (none_short (slot_at c.self.inside.slots.entries c.args.key) (sym c.long_place.ensures ∙ c.in_default.is) (sym c.in_ok-before-2.ensures.old ∙ none)))
 
 pub returns-clause-keys : goal.returns-clause-keys
 returns-clause-keys c = λ some. keys_seen c.self.inside.slots.entries c.put_slot-2.new.slots.entries c.self.inside.long.items c.push_reserved.new.self.items c.args.self.now c.self.view_is

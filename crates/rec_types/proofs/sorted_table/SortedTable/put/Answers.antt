@@ -1,13 +1,14 @@
 use Rattle.std.proofs.lemmas.Bool.Decides.{nat_tests}
-use Rattle.std.proofs.Common.{◌≡◌, length, Some, Ok, Err, true, false, refl, is_none, nat_le, ◌&&◌, sym, ap, subst, ◌∙◌, arith}
+use Rattle.std.proofs.Common.{◌≡◌, length, Some, Ok, Err, true, false, refl, is_none, nat_le, ◌&&◌, sym, ap, ◌∙◌, arith}
 use Rattle.std.specs.FinMap as maps
 use Rattle.rec_types.specs.Calls.{with_set}
 use Rattle.rec_types.specs.Contents.{set_to}
 use Rattle.rec_types.specs.Table.{counted}
 use Rattle.rec_types.specs.declared.table.TableFault.TheVariants.{Memory}
-use Rattle.rec_types.specs.KeyOrder.{IsOrderOf}
+use Rattle.std.specs.Map.{keys_of}
 use Rattle.rec_types.specs.Sorted.{Pairs, SortedState}
-use Rattle.rec_types.proofs.HashedLemmas.{at_hash, updated, len_hashed, and_parts}
+use Rattle.rec_types.proofs.HashedLemmas.{at_hash, updated, len_hashed}
+use Rattle.rec_types.proofs.KeyPlaceLemmas.{first_stays}
 use Rattle.rec_types.proofs.MapLemmas.{fits}
 use Rattle.rec_types.proofs.sorted_table.SortedTable.put.Goals as goal
 
@@ -22,9 +23,7 @@ invariant_of-self c = record {
       ((λ i. nat_le (limits i) (counts i) && is_none (stood i)) ∙ c.requires)
       c.self.invariant.within;
   limited = c.self.invariant.limited;
-  ordered = λ on.
-      let both = and_parts c.self.inside.in_order c.is_some.result on in
-      subst (λ ks. IsOrderOf ks c.self.inside.places.items) (sym (c.in-Ok.ensures.keys (sym c.is_some.ensures ∙ both.1))) (c.self.invariant.ordered both.0);
+  ordered = λ on. first_stays (keys_of c.self.inside.records) (keys_of c.insert.new.self) c.self.inside.places.items c.args.key c.in-Ok.before c.in-Ok.ensures.keys c.in-Ok.ensures.last (c.self.invariant.ordered on);
 }
 
 pub returns-in-Ok-clause-value : goal.returns-in-Ok-clause-value

@@ -1,0 +1,4 @@
+use Rattle.btree_insert.proofs.beside.+leaf_below.Given as goal
+
+abbrev pub decreases-leaf_below : goal.decreases-leaf_below
+decreases-leaf_below g l = l.spot.now.level
