@@ -276,6 +276,37 @@ same file-journal other
 same file old
 rm -f lines file*
 
+row="a log of commits that another takes away while a session has the file open"
+# Whether a commit comes after it or the end: it isn't answered with ok, and what has the name of the log by then stays.
+for do in 'rm file-commits' 'mv file-commits gone' 'mv file-commits gone; cp gone file-commits' 'mv file-commits gone; cp other file-commits' 'mv file gone' 'mv file gone; cp other file'; do
+    for last in commit end; do
+        rm -rf file* gone
+        cp old file
+        mkfifo lines
+        "$program" shell --durable file < lines > out 2> err &
+        shell=$!
+        runs=$((runs + 1))
+        exec 3> lines
+        printf 'begin\nput 1 k99 =kept\ncommit 1\nbegin\nput 2 k98 =doubt\n' >&3
+        until [ "$(grep -c . out)" = 5 ]; do sleep 0.01; done
+        sh -c "$do"
+        rm -f before
+        [ ! -e file-commits ] || cp file-commits before
+        [ $last = end ] || printf 'commit 2\n' >&3
+        exec 3>&-
+        status=0
+        wait $shell || status=$?
+        expect 1 "recfile: Device"
+        [ $last = end ] || [ "$(tail -n 1 out)" = "no Doubt" ] || fail "$do: the commit: $(tail -n 1 out)"
+        case $do in
+        'mv file gone'*) [ -e file-commits ] || fail "$do: the log is gone" ;;
+        *) [ ! -e before ] || same file-commits before ;;
+        esac
+        rm lines
+    done
+done
+rm -f file* gone before
+
 row="a new file"
 for fate in lost halves; do
     rm -rf file met

@@ -16,6 +16,13 @@ pub enum FileKind {
     Other,
 }
 
+/// When something was changed last, by the clock of its file system, whose steps may be some milliseconds.
+#[derive(Clone, Copy, Debug, PartialEq, Eq, PartialOrd, Ord)]
+pub struct ChangeTime {
+    pub seconds: i64,
+    pub nanoseconds: i64,
+}
+
 /// What a file is besides its bytes.
 #[derive(Clone, Copy, Debug)]
 pub struct FileFacts {
@@ -31,6 +38,8 @@ pub struct FileFacts {
     /// The device that it is on, and its number there: no two files have both.
     pub device: u64,
     pub node: u64,
+    /// When its bytes were, or in a folder its names.
+    pub changed: ChangeTime,
 }
 
 impl FileFacts {
@@ -45,6 +54,10 @@ impl FileFacts {
             links: metadata.nlink(),
             device: metadata.dev(),
             node: metadata.ino(),
+            changed: ChangeTime {
+                seconds: metadata.mtime(),
+                nanoseconds: metadata.mtime_nsec(),
+            },
         }
     }
 

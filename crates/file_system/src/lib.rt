@@ -6,7 +6,7 @@ mod host_system;
 mod lock;
 mod system;
 
-pub use facts::{FileFacts, FileKind};
+pub use facts::{ChangeTime, FileFacts, FileKind};
 pub use host_system::{HostFile, HostSystem};
 pub use lock::Lock;
 pub use system::{System, SystemFile};

@@ -1,9 +1,13 @@
 mod BelongLemmas
+mod ByteLemmas
+pub mod CallDiskLemmas
+mod CallsOutLemmas
 pub mod CarryingLemmas
 mod CommitFateLemmas
 mod ExampleLemmas
 mod FateLemmas
 mod FileDiskLemmas
+mod FileExampleLemmas
 mod KeptStoreLemmas
 mod LogExampleLemmas
 mod LogLemmas
@@ -17,4 +21,5 @@ mod RestoreLemmas
 mod RunLemmas
 mod SealedLemmas
 mod SideLemmas
+mod SideReadingLemmas
 mod StayingLemmas

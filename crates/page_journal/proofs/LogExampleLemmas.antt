@@ -1,15 +1,15 @@
 -- Outcomes of the examples of a log, and why there are no others.
-use Rattle.std.proofs.Common.{◌≡◌, ⊎_elim, inl, inr, ℕ, Bool, true, false, List, [], ◌∷◌, Option, Some, None, Vec, get_or, is_some, option_map, length, unwrap_or, refl, sym, ◌∙◌, ap, subst, arith}
+use Rattle.std.proofs.Common.{◌≡◌, ⊎_elim, inr, ℕ, true, List, [], ◌∷◌, Option, Some, None, Vec, get_or, is_some, unwrap_or, refl, sym, ◌∙◌, ap, subst, arith}
 use Rattle.std.proofs.lemmas.Bool.{false≢true}
 use Rattle.std.proofs.lemmas.Option.{none-some}
 use Rattle.std.specs.declared.alloc.Global.{Global}
 use Rattle.commit_paper.specs.Steps.{Inks}
-use Rattle.page_journal.specs.Files.{PageFile, CommitFiles, Files}
+use Rattle.page_journal.specs.Files.{CommitFiles, Files}
 use Rattle.page_journal.specs.Steps.{nothing_kept, bytes_over, OnLog}
 use Rattle.page_journal.specs.History.{MayLeave}
 use Rattle.page_journal.specs.Examples.{without_side_file, old_file, log_made, log_named_early, with_log}
 use Rattle.page_journal.specs.declared.disk_call.DiskCall.TheVariants.{SyncNames, Commits}
-use Rattle.page_journal.specs.declared.commit_call.CommitCall.TheVariants.{Start, SyncFresh, Name, Write, Sync}
+use Rattle.page_journal.specs.declared.commit_call.CommitCall.TheVariants.{Write, Sync}
 use Rattle.page_journal.proofs.CommitFateLemmas.{unwritten_log}
 
 pub made_there : (bytes : Vec ℕ Global) (c : Files) → MayLeave (without_side_file old_file) (log_made bytes) c → (c.commits.log ≡ Some bytes.items) × (c.main ≡ old_file)

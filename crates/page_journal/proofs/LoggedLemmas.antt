@@ -1,17 +1,17 @@
 -- How what is known of the commits goes on with each call.
-use Rattle.std.proofs.Common.{◌≡◌, ◌≢◌, ◌⊎◌, ⊎_elim, inl, inr, ℕ, ◌+◌, ◌≤◌, List, [], ◌∷◌, ◌++◌, length, take, Option, Some, None, is_some, Result, Ok, Err, OnOk, refl, sym, ◌∙◌, ap, subst, arith, append_assoc, length-append, Bool}
-use Rattle.std.proofs.lemmas.List.{append-nil, take_at}
+use Rattle.std.proofs.Common.{◌≡◌, ◌≢◌, ◌⊎◌, ⊎_elim, inl, inr, ℕ, ◌≤◌, List, [], ◌∷◌, ◌++◌, length, Option, Some, None, is_some, Result, Ok, Err, OnOk, refl, sym, ◌∙◌, ap, subst, arith, append_assoc, length-append, Bool}
+use Rattle.std.proofs.lemmas.List.{append-nil}
 use Rattle.commit_paper.specs.Text.{units_of, unit_text, log_text, IsUnit, AreUnits}
-use Rattle.commit_paper.specs.Shown.{Shows}
 use Rattle.commit_paper.proofs.Scans.{log_passes}
 use Rattle.commit_paper.proofs.Shown.{shown_units, before}
-use Rattle.page_journal.specs.Files.{PageFile, SideFile, CommitFiles, Files, BelongsTo, recovered, recovered_by}
-use Rattle.page_journal.specs.Crash.{LeavesOnly, LeavesLogs, LeavesPages, IsSettled, FilesStandFor, StandsForEither, logs_of, pages_of}
+use Rattle.page_journal.specs.Files.{PageFile, SideFile, CommitFiles, Files, BelongsTo, recovered_by}
+use Rattle.page_journal.specs.Crash.{LeavesOnly, LeavesLogs, LeavesPages, IsSettled, FilesStandFor, StandsForEither, pages_of}
 use Rattle.page_journal.specs.KeptStores.{IsGuarded, KeptStored, old_file_of, opened_over}
 use Rattle.page_store.specs.Opening.{Opening}
 use Rattle.page_journal.specs.Logging.{HasLog, HasNoLog, Says, SaysEither, SaysNoneOr, StandsInLog, IsReady}
-use Rattle.page_journal.specs.LoggedStores.{AreFirst, SaysFirst, SaysDoubt, SaysAll, MayFind, FindsAll, FindsNow, HoldsLog, HoldsCommits, IsLogged, DoubtStops, LeavesWithCommits, units_before, commits_in}
+use Rattle.page_journal.specs.LoggedStores.{BeganAlone, KnowsCommits, AreFirst, SaysFirst, SaysDoubt, SaysAll, MayFind, FindsAll, FindsNow, HoldsCommits, IsLogged, DoubtStops, LeavesWithCommits, units_before, commits_in}
 use Rattle.page_journal.proofs.KeptStoreLemmas.{same_guard}
+use Rattle.page_journal.proofs.MomentLemmas.{started, weaker}
 use Rattle.page_journal.specs.declared.disk_state.DiskState.{Ghosts}
 use Rattle.page_journal.specs.declared.log_place.LogPlace.{LogPlace}
 use Rattle.page_journal.specs.declared.seal_state.SealState.{SealState}
@@ -97,6 +97,10 @@ on_every (Ok _) p = p
 on_every (Err _) p = tt
 
 module _ {D : Type 0} (g : Ghosts D) where
+  pub alone_same : (log : Option LogPlace) (old new : D) → g.began new ≡ g.began old → BeganAlone g log old → BeganAlone g log new
+  alone_same None old new began alone = tt
+  alone_same (Some place) old new began alone = ap (λ (f : Files). f.commits.log) began ∙ alone
+
   pub ready_stands : (units : Units) (place : LogPlace) (disk : D) → IsReady g units place disk → StandsInLog units place (g.seen disk)
   ready_stands units place disk ready = (ready.seen.0, ready.seen.1, before units ready.room ready.seen.0 ready.seen.2 place.end ready.end)
 
@@ -148,13 +152,15 @@ module _ {D : Type 0} (g : Ghosts D) where
       ready = λ none. ready_leaves holds.units place old new leaves (holds.ready none);
     }
 
-    pub logged_leaves : (log : Option LogPlace) (doubt : List ℕ) (old new : D) → LeavesLogs g old new → g.began new ≡ g.began old → IsLogged g log doubt old → IsLogged g log doubt new
-    logged_leaves log doubt old new leaves began logged = record {
-      holds = holds_leaves log doubt old new leaves began logged.holds;
-      time = λ c left.
-          subst (λ (b : Files). MayFind log b (commits_in log (g.seen new)) doubt c) (sym began)
-          (subst (λ (u : Units). MayFind log (g.began old) u doubt c) (sym (commits_same log (g.seen new) (g.seen old) leaves.seen)) (leaves_time log doubt old new leaves logged c left));
-    }
+    pub logged_leaves : (log : Option LogPlace) (doubt : List ℕ) (old new : D) → LeavesLogs g old new → g.began new ≡ g.began old → KnowsCommits g log doubt old → KnowsCommits g log doubt new
+    logged_leaves log doubt old new leaves began knows alone =
+        let logged = knows (alone_same log new old (sym began) alone) in
+        record {
+          holds = holds_leaves log doubt old new leaves began logged.holds;
+          time = λ c left.
+              subst (λ (b : Files). MayFind log b (commits_in log (g.seen new)) doubt c) (sym began)
+              (subst (λ (u : Units). MayFind log (g.began old) u doubt c) (sym (commits_same log (g.seen new) (g.seen old) leaves.seen)) (leaves_time log doubt old new leaves logged c left));
+        }
 
     -- what is found now, where none is in doubt
     pub finds_now : (log : Option LogPlace) (doubt : List ℕ) (disk : D) → doubt ≡ [] → IsLogged g log doubt disk → (c : Files) → g.may_leave disk c → FindsAll log (g.began disk) (commits_in log (g.seen disk)) c
@@ -285,71 +291,69 @@ module _ {D : Type 0} (g : Ghosts D) where
           (λ says. ⊎_elim (λ same. inl (inr (held, whole_first held, logged.holds.some, same))) (λ more. inr (unit, is, spelt, more)) says)
           (moment.before 0 c (omega arith) left))
 
-    -- of a store, whole
+    -- of a store, whole: what guards its pages after a call on the log alone, and after a commit in doubt
+    pub kept_guard : (state : SealState) (flags : List Bool) (old new : D) → state ≡ Unsealed → g.began new ≡ g.began old → LeavesPages g old new → IsGuarded g (old_file_of g old) state flags old → IsGuarded g (old_file_of g new) state flags new
+    kept_guard state flags old new is began pages guarded = subst (λ s. IsGuarded g (old_file_of g new) s flags new) (sym is) (same_guard g Unsealed flags old new new began (guarded_leaves (old_file_of g old) flags old new pages (subst (λ s. IsGuarded g (old_file_of g old) s flags old) is guarded)))
 
-    pub begin_all : (state : SealState) (flags : List Bool) (log : Option LogPlace) (doubt : List ℕ) (place : LogPlace) (old new : D) (unit : List (List ℕ)) → state ≡ Unsealed → log ≡ None → (g.began old).commits.log ≡ None → g.began new ≡ g.began old → LeavesPages g old new → (HasNoLog g old → LeavesOnly g (SaysNoneOr (unit ∷ [])) old new) → (HasNoLog g old → IsReady g (unit ∷ []) place new) → IsGuarded g (old_file_of g old) state flags old × IsLogged g log doubt old × DoubtStops state doubt → IsGuarded g (old_file_of g new) state flags new × IsLogged g (Some place) doubt new × DoubtStops state doubt
-    begin_all state flags log doubt place old new unit is unlogged none began pages moment ready all =
-        let guarded = subst (λ s. IsGuarded g (old_file_of g old) s flags old) is all.0 in
-        let logged = subst (λ l. IsLogged g l doubt old) unlogged all.1 in
-        let clear = no_log doubt old none logged in (
-          subst (λ s. IsGuarded g (old_file_of g new) s flags new) (sym is) (same_guard g Unsealed flags old new new began (guarded_leaves (old_file_of g old) flags old new pages guarded)),
-          begun_logged unit place old new doubt none logged (moment clear) (ready clear),
-          all.2,
-        )
+    pub begin_all : (log : Option LogPlace) (doubt : List ℕ) (place : LogPlace) (old new : D) (unit : List (List ℕ)) → log ≡ None → g.began new ≡ g.began old → (HasNoLog g old → LeavesOnly g (SaysNoneOr (unit ∷ [])) old new) → (HasNoLog g old → IsReady g (unit ∷ []) place new) → KnowsCommits g log doubt old → KnowsCommits g (Some place) doubt new
+    begin_all log doubt place old new unit unlogged began moment ready knows alone =
+        let logged = subst (λ l. KnowsCommits g l doubt old) unlogged knows tt in
+        let none : (g.began old).commits.log ≡ None = ap (λ (f : Files). f.commits.log) (sym began) ∙ alone in
+        let clear = no_log doubt old none logged in
+        begun_logged unit place old new doubt none logged (moment clear) (ready clear)
 
-    pub begin_stops : (state : SealState) (flags : List Bool) (log : Option LogPlace) (doubt : List ℕ) (old new : D) (unit : List (List ℕ)) → state ≡ Unsealed → log ≡ None → (g.began old).commits.log ≡ None → LeavesPages g old new → (HasNoLog g old → LeavesOnly g (SaysNoneOr (unit ∷ [])) old new) → IsGuarded g (old_file_of g old) state flags old × IsLogged g log doubt old × DoubtStops state doubt → (c : Files) → g.left_since new 0 c → FilesStandFor (old_file_of g old) c × SaysNoneOr (unit ∷ []) c
-    begin_stops state flags log doubt old new unit is unlogged none pages moment all c left =
-        let guarded = subst (λ s. IsGuarded g (old_file_of g old) s flags old) is all.0 in
-        let logged = subst (λ l. IsLogged g l doubt old) unlogged all.1 in (
-          begun_time (old_file_of g old) flags old new pages guarded c left,
-          begun_finds unit old new doubt none logged (moment (no_log doubt old none logged)) c left,
-        )
+    pub begin_stops : (state : SealState) (flags : List Bool) (old new : D) → state ≡ Unsealed → LeavesPages g old new → IsGuarded g (old_file_of g old) state flags old → (c : Files) → g.left_since new 0 c → FilesStandFor (old_file_of g old) c
+    begin_stops state flags old new is pages guarded = begun_time (old_file_of g old) flags old new pages (subst (λ s. IsGuarded g (old_file_of g old) s flags old) is guarded)
 
-    module _ (state : SealState) (flags : List Bool) (doubt : List ℕ) (place next : LogPlace) (old new : D) (is : state ≡ Unsealed) (began : g.began new ≡ g.began old) (pages : LeavesPages g old new) (all : IsGuarded g (old_file_of g old) state flags old × IsLogged g (Some place) doubt old × DoubtStops state doubt) where
+    pub begin_says : (log : Option LogPlace) (doubt : List ℕ) (old new : D) (unit : List (List ℕ)) → log ≡ None → (g.began old).commits.log ≡ None → (HasNoLog g old → LeavesOnly g (SaysNoneOr (unit ∷ [])) old new) → KnowsCommits g log doubt old → (c : Files) → g.left_since new 0 c → SaysNoneOr (unit ∷ []) c
+    begin_says log doubt old new unit unlogged none moment knows =
+        let logged = subst (λ l. KnowsCommits g l doubt old) unlogged knows tt in
+        begun_finds unit old new doubt none logged (moment (no_log doubt old none logged))
+
+    pub doubt_guard : (state : SealState) (flags : List Bool) (old new : D) → state ≡ Unsealed → g.began new ≡ g.began old → LeavesPages g old new → IsGuarded g (old_file_of g old) state flags old → IsGuarded g (old_file_of g new) Stopped flags new
+    doubt_guard state flags old new is began pages guarded = same_guard g Stopped flags old new new began (stopped_leaves (old_file_of g old) flags old new pages (subst (λ s. IsGuarded g (old_file_of g old) s flags old) is guarded))
+
+    module _ (state : SealState) (doubt : List ℕ) (place next : LogPlace) (old new : D) (is : state ≡ Unsealed) (was : IsLogged g (Some place) doubt old) (stops : DoubtStops state doubt) where
       pub sure : doubt ≡ []
-      sure = unsealed_sure state doubt is all.2
+      sure = unsealed_sure state doubt is stops
 
       pub logged : IsLogged g (Some place) [] old
-      logged = subst (λ t. IsLogged g (Some place) t old) sure all.1
+      logged = subst (λ t. IsLogged g (Some place) t old) sure was
 
-      pub ready_units : (units : Units) × IsReady g units place old × (units ≡ logged.holds.units)
-      ready_units = (logged.holds.units, logged.holds.ready refl, refl)
-
-      still : IsGuarded g (old_file_of g new) state flags new
-      still = subst (λ s. IsGuarded g (old_file_of g new) s flags new) (sym is) (same_guard g Unsealed flags old new new began (guarded_leaves (old_file_of g old) flags old new pages (subst (λ s. IsGuarded g (old_file_of g old) s flags old) is all.0)))
-
-      pub keep_all : (unit : List (List ℕ)) → ((units : Units) → IsReady g units place old → IsReady g (units ++ unit ∷ []) next new) → ((units : Units) → IsReady g units place old → LeavesOnly g (SaysEither units unit) old new) → IsGuarded g (old_file_of g new) state flags new × IsLogged g (Some next) doubt new × DoubtStops state doubt
-      keep_all unit ready moment = (
-        still,
-        subst (λ t. IsLogged g (Some next) t new) (sym sure) (kept_logged place next old new logged unit (ready logged.holds.units (logged.holds.ready refl)) (moment logged.holds.units (logged.holds.ready refl))),
-        all.2,
-      )
+      pub keep_all : (unit : List (List ℕ)) → ((units : Units) → IsReady g units place old → IsReady g (units ++ unit ∷ []) next new) → ((units : Units) → IsReady g units place old → LeavesOnly g (SaysEither units unit) old new) → IsLogged g (Some next) doubt new
+      keep_all unit ready moment = subst (λ t. IsLogged g (Some next) t new) (sym sure) (kept_logged place next old new logged unit (ready logged.holds.units (logged.holds.ready refl)) (moment logged.holds.units (logged.holds.ready refl)))
 
       pub keep_told : (unit : List (List ℕ)) → ((units : Units) → IsReady g units place old → IsReady g (units ++ unit ∷ []) next new) → commits_in (Some next) (g.seen new) ≡ commits_in (Some place) (g.seen old) ++ unit ∷ []
       keep_told unit ready = kept_commits place next old new logged unit (ready logged.holds.units (logged.holds.ready refl))
 
-      pub room_all : ((units : Units) → IsReady g units place old → IsReady g units next new × LeavesOnly g (Says units) old new) → IsGuarded g (old_file_of g new) state flags new × IsLogged g (Some next) doubt new × DoubtStops state doubt
+      -- at each moment of it a crash leaves every commit that was kept, and perhaps this one
+      pub keep_moment : (unit : List (List ℕ)) (text : List ℕ) → IsUnit unit → text ≡ unit_text unit → ((units : Units) → IsReady g units place old → LeavesOnly g (SaysEither units unit) old new) → LeavesOnly g (FindsNow (Some place) (g.began old) (commits_in (Some place) (g.seen old)) text) old new
+      keep_moment unit text is_unit spelt moment =
+          let units = logged.holds.units in
+          let are : commits_in (Some place) (g.seen old) ≡ units = stood units place (g.seen old) logged.holds.whole logged.holds.stand in
+          subst (λ (us : Units). LeavesOnly g (SaysAll us text) old new) (sym are)
+          (weaker g (SaysEither units unit) (SaysAll units text) old new (λ c says. ⊎_elim (λ all. inl all) (λ more. inr (unit, is_unit, spelt, more)) says) (moment units (logged.holds.ready refl)))
+
+      pub room_all : ((units : Units) → IsReady g units place old → IsReady g units next new × LeavesOnly g (Says units) old new) → IsLogged g (Some next) doubt new
       room_all room =
-          let had = room logged.holds.units (logged.holds.ready refl) in (
-            still,
-            subst (λ t. IsLogged g (Some next) t new) (sym sure) (room_logged place next old new logged had.0 had.1),
-            all.2,
-          )
+          let had = room logged.holds.units (logged.holds.ready refl) in
+          subst (λ t. IsLogged g (Some next) t new) (sym sure) (room_logged place next old new logged had.0 had.1)
 
       pub room_told : ((units : Units) → IsReady g units place old → IsReady g units next new × LeavesOnly g (Says units) old new) → commits_in (Some next) (g.seen new) ≡ commits_in (Some place) (g.seen old)
       room_told room =
           let had = room logged.holds.units (logged.holds.ready refl) in
           same_commits place next old new logged (ready_stands logged.holds.units next new had.0)
 
-      pub doubt_all : (unit : List (List ℕ)) (text : List ℕ) → IsUnit unit → text ≡ unit_text unit → ((units : Units) → IsReady g units place old → StandsInLog units next (g.seen new)) → ((units : Units) → IsReady g units place old → LeavesOnly g (SaysEither units unit) old new) → IsGuarded g (old_file_of g new) Stopped flags new × IsLogged g (Some next) text new × DoubtStops Stopped text
-      doubt_all unit text is_unit spelt stand moment = (
-        same_guard g Stopped flags old new new began (stopped_leaves (old_file_of g old) flags old new pages (subst (λ s. IsGuarded g (old_file_of g old) s flags old) is all.0)),
-        doubt_logged place next old new logged unit text is_unit spelt (stand logged.holds.units (logged.holds.ready refl)) (moment logged.holds.units (logged.holds.ready refl)),
-        tt,
-      )
+      pub doubt_all : (unit : List (List ℕ)) (text : List ℕ) → IsUnit unit → text ≡ unit_text unit → ((units : Units) → IsReady g units place old → StandsInLog units next (g.seen new)) → ((units : Units) → IsReady g units place old → LeavesOnly g (SaysEither units unit) old new) → IsLogged g (Some next) text new
+      doubt_all unit text is_unit spelt stand moment = doubt_logged place next old new logged unit text is_unit spelt (stand logged.holds.units (logged.holds.ready refl)) (moment logged.holds.units (logged.holds.ready refl))
 
       pub doubt_told : ((units : Units) → IsReady g units place old → StandsInLog units next (g.seen new)) → commits_in (Some next) (g.seen new) ≡ commits_in (Some place) (g.seen old)
       doubt_told stand = same_commits place next old new logged (stand logged.holds.units (logged.holds.ready refl))
+
+    -- where there is no log, and no call
+    pub none_moment : (log : Option LogPlace) (doubt text : List ℕ) (old : D) → ((c : Files) → g.left_since old (g.moment old) c → g.may_leave old c) → log ≡ None → IsLogged g log doubt old → LeavesOnly g (FindsNow log (g.began old) (commits_in log (g.seen old)) text) old old
+    none_moment None doubt text old only none logged = started g (FindsNow None (g.began old) (commits_in None (g.seen old)) text) old only (λ c left. all_now None doubt old logged c left)
+    none_moment (Some place) doubt text old only none logged = absurd (cc)
 
     -- a disk that was just opened
     pub opened_time : (old new : D) → g.moment old ≡ 0 → ((c : Files) → g.left_since old (g.moment old) c → g.may_leave old c) → ((c : Files) → g.may_leave old c → c.commits.log ≡ (g.seen old).commits.log) → g.seen old ≡ g.began old → g.began new ≡ g.began old → LeavesLogs g old new → (c : Files) → g.left_since new 0 c → c.commits.log ≡ (g.began new).commits.log

@@ -61,14 +61,14 @@ side_read kept is =
         λ i. record { long = is_long i; rest = Some (is_rest i); pages = are i }
 
 -- a tally of all the entries
-tally_all : (t : Tally) (pages : List (ℕ × List ℕ)) → (tally_on t pages).long ≡ t.long × ((tally_on t pages).kept ≡ t.kept + length pages) × ((tally_on t pages).sum ≡ sum_pages t.sum pages) × ((tally_on t pages).rest ≡ t.rest)
+pub tally_all : (t : Tally) (pages : List (ℕ × List ℕ)) → (tally_on t pages).long ≡ t.long × ((tally_on t pages).kept ≡ t.kept + length pages) × ((tally_on t pages).sum ≡ sum_pages t.sum pages) × ((tally_on t pages).rest ≡ t.rest)
 tally_all t [] = (refl, omega arith, refl, refl)
 tally_all t (p ∷ pages) =
     let more = tally_all (tally_more t p.0 (entry_bytes p.0 p.1)) pages in
     (more.0, more.1 ∙ omega arith, more.2, more.3)
 
 -- its header is that of the side file
-header_all : (kept : SideFile) → tally_header (tally_on (first_tally kept.long kept.rest) kept.pages) ≡ side_header kept.long (length kept.pages) kept.rest (side_sum kept)
+pub header_all : (kept : SideFile) → tally_header (tally_on (first_tally kept.long kept.rest) kept.pages) ≡ side_header kept.long (length kept.pages) kept.rest (side_sum kept)
 header_all kept =
     let all = tally_all (first_tally kept.long kept.rest) kept.pages in
     let count : (tally_on (first_tally kept.long kept.rest) kept.pages).kept ≡ length kept.pages = omega (arith, all.1) in

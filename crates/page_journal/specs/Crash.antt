@@ -1,5 +1,5 @@
 -- What a crash at any moment leaves.
-use Rattle.std.specs.Prelude.{◌≡◌, ◌⊎◌, ℕ, ◌<◌, ◌≤◌, Bool, true, false, List, Option, Some, None, Result, IsTrue, OnOk, length, All, slice_get, slice_index_or}
+use Rattle.std.specs.Prelude.{◌≡◌, ◌⊎◌, ℕ, ◌<◌, ◌≤◌, Bool, true, false, List, Option, Some, None, Result, OnOk, length, All, slice_get, slice_index_or}
 use Rattle.page_journal.specs.Files.{PageFile, SideFile, CommitFiles, Files, Agree, IsOf, Belongs, is_kept, recovered, restored, put_back}
 use Rattle.page_journal.specs.declared.disk_state.DiskState.{Ghosts}
 
@@ -31,7 +31,7 @@ IsAtRest g disk = (c : Files) → g.may_leave disk c → (c.main ≡ (g.seen dis
 pub record BeginsAgain {D : Type 0} (g : Ghosts D) (old new : D) : Type 0 where
   pub seen : g.seen new ≡ g.seen old
   pub steady : g.steady new ≡ g.steady old
-  pub began : IsTrue (g.steady new) → g.seen new ≡ g.began new
+  pub began : g.seen new ≡ g.began new
   pub rest : IsAtRest g new
   pub moment : g.moment new ≡ 0
 

@@ -1,9 +1,11 @@
 -- Files and calls that the laws show things by.
-use Rattle.std.specs.Prelude.{ℕ, List, [], ◌∷◌, None, Some, Vec}
+use Rattle.std.specs.Prelude.{ℕ, Bool, false, List, [], ◌∷◌, None, Some, Vec}
 use Rattle.std.specs.declared.alloc.Global.{Global}
 use Rattle.page_journal.specs.Files.{PageFile, SideFile, Files, no_commits}
 use Rattle.page_journal.specs.Steps.{nothing_kept}
 use Rattle.page_journal.specs.Sums.{sum_start, sum_on}
+use Rattle.page_journal.specs.FileEvents as events
+use Rattle.page_journal.specs.FileEvents.{Noted, FileHistory}
 use Rattle.page_store.specs.declared.step.Step.{Step}
 use Rattle.page_store.specs.declared.step.Step.TheVariants as steps
 use Rattle.page_journal.specs.declared.disk_call.DiskCall.{DiskCall}
@@ -83,3 +85,15 @@ page_1_steps = steps.SetPages 3 ∷ steps.Write 1 (9 ∷ []) ∷ steps.Sync ∷ 
 -- and the other page, too
 abbrev pub both_steps : List Step
 both_steps = steps.Write 0 (7 ∷ []) ∷ page_1_steps
+
+-- a write of page 0 and a sync of which is said whether it failed, as a disk in files notes them, the newest first
+abbrev pub noted_write_and_sync : Bool → List Noted
+noted_write_and_sync failed = record { failed = failed; call = events.Sync } ∷ record { failed = false; call = events.Write 0 (7 ∷ []) } ∷ []
+
+-- and then a write of page 1
+abbrev pub three_noted : Bool → List Noted
+three_noted failed = record { failed = false; call = events.Write 1 (9 ∷ []) } ∷ noted_write_and_sync failed
+
+-- a disk in files that noted these calls over the old file, and counted a failure
+abbrev pub noted_over : List Noted → FileHistory
+noted_over calls = record { first = without_side_file old_file; calls = calls; failures = 1 }

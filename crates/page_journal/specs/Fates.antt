@@ -1,5 +1,5 @@
 -- What a crash makes of the calls of a disk in memory.
-use Rattle.std.specs.Prelude.{◌≡◌, ℕ, ◌-◌, List, [], ◌++◌, None, option_map, length, take, drop, replicate, is_some, ⊤}
+use Rattle.std.specs.Prelude.{◌≡◌, ℕ, ◌-◌, List, [], ◌++◌, option_map, length, take, drop, replicate, is_some, ⊤}
 use Rattle.rec_types.specs.Widths.{page_width}
 use Rattle.page_journal.specs.Files.{CommitFiles, Files}
 use Rattle.page_journal.specs.Steps.{nothing_kept, bytes_over, KeepsLog}

@@ -77,6 +77,15 @@ pub record IsLogged {D : Type 0} (g : Ghosts D) (log : Option LogPlace) (doubt :
   pub holds : HoldsCommits g log doubt disk
   pub time : (c : Files) → g.left_since disk 0 c → MayFind log (g.began disk) (commits_in log (g.seen disk)) doubt c
 
+-- where a log was begun, none stood beside the file when the disk was opened
+abbrev pub BeganAlone : {D : Type 0} → Ghosts D → Option LogPlace → D → Type 0
+BeganAlone g None disk = Unit {0}
+BeganAlone g (Some place) disk = (g.began disk).commits.log ≡ None
+
+-- what is known of the commits then, whatever reads give
+abbrev pub KnowsCommits : {D : Type 0} → Ghosts D → Option LogPlace → List ℕ → D → Type 0
+KnowsCommits g log doubt disk = BeganAlone g log disk → IsLogged g log doubt disk
+
 -- only a store that lets nothing be written over is in doubt
 abbrev pub DoubtStops : SealState → List ℕ → Type 0
 DoubtStops Unsealed doubt = doubt ≡ []

@@ -39,7 +39,7 @@ pub trait Disk: DiskState {
     /// Writes page n, which is there. Fault: Failed; the page then has any bytes.
     fn write(&mut self, n: u32, from: &[u8; PAGE_WIDTH]) -> Result<(), StoreFault>
         requires { n < length (Self.seen self.old).main.pages }
-        ensures page { IsTrue (Self.steady self.old) → OnOk result ((Self.seen self.new).main.pages
+        ensures page { OnOk result ((Self.seen self.new).main.pages
             ≡ slice_set (Self.seen self.old).main.pages n from.now) }
         ensures does { CallDoes Self.DiskState (TornAt n) self.old result self.new };
 
@@ -67,13 +67,12 @@ pub trait Disk: DiskState {
     /// Begins a side file for a file of so many pages, of which those that it won't keep have that sum, under the name
     /// that no opening looks for. Fault: Failed; what has that name is anything then.
     fn start(&mut self, long: u32, rest: u64) -> Result<(), StoreFault>
-        ensures fresh { IsTrue (Self.steady self.old)
-            → OnOk result ((Self.seen self.new).fresh ≡ begun long rest) }
+        ensures fresh { OnOk result ((Self.seen self.new).fresh ≡ begun long rest) }
         ensures does { CallDoes Self.DiskState Fresh self.old result self.new };
 
     /// Adds an old page to it, the page of number n. Fault: Failed; what has that name is anything then.
     fn keep(&mut self, n: u32, page: &[u8; PAGE_WIDTH]) -> Result<(), StoreFault>
-        ensures fresh { IsTrue (Self.steady self.old) → OnOk result ((Self.seen self.new).fresh
+        ensures fresh { OnOk result ((Self.seen self.new).fresh
             ≡ kept_more (Self.seen self.old).fresh n page.now) }
         ensures does { CallDoes Self.DiskState Fresh self.old result self.new };
 
@@ -83,8 +82,7 @@ pub trait Disk: DiskState {
 
     /// Gives the side file that was made the name that an opening looks for, at once or not at all. Fault: Failed.
     fn name(&mut self) -> Result<(), StoreFault>
-        ensures named { IsTrue (Self.steady self.old)
-            → OnOk result ((Self.seen self.new).side ≡ Some (Self.seen self.old).fresh) }
+        ensures named { OnOk result ((Self.seen self.new).side ≡ Some (Self.seen self.old).fresh) }
         ensures does { CallDoes Self.DiskState Names self.old result self.new };
 
     /// Takes the side file of that name away, at once or not at all. Fault: Failed.
@@ -114,7 +112,7 @@ pub trait Disk: DiskState {
     /// Begins a log of commits with these bytes and so many zeros behind them, under the name that no opening looks for.
     /// Fault: Failed; what has that name is anything then.
     fn start_log(&mut self, head: &[u8], room: usize) -> Result<(), StoreFault>
-        ensures made { IsTrue (Self.steady self.old) → OnOk result
+        ensures made { OnOk result
             ((Self.seen self.new).commits.fresh ≡ head.now ++ zeros room) }
         ensures does { CallDoes Self.DiskState (InCommits FreshLog) self.old result self.new };
 
@@ -124,7 +122,7 @@ pub trait Disk: DiskState {
 
     /// Gives the log that was made the name that an opening looks for, at once or not at all. Fault: Failed.
     fn name_log(&mut self) -> Result<(), StoreFault>
-        ensures named { IsTrue (Self.steady self.old) → OnOk result
+        ensures named { OnOk result
             ((Self.seen self.new).commits.log ≡ Some (Self.seen self.old).commits.fresh) }
         ensures does { CallDoes Self.DiskState (InCommits NamesLog) self.old result self.new };
 
@@ -136,14 +134,14 @@ pub trait Disk: DiskState {
     /// Makes what follows a place of the log so many zeros, whatever there was. Fault: Failed; behind that place is
     /// anything then.
     fn lengthen_log(&mut self, at: usize, n: usize) -> Result<(), StoreFault>
-        ensures zeros { IsTrue (Self.steady self.old) → OnOk result
+        ensures zeros { OnOk result
             ((Self.seen self.new).commits.log ≡ option_map (zeroed at n) (Self.seen self.old).commits.log) }
         ensures does { AppendDoes Self.DiskState (InCommits (ChangesLog (Lengthens at)))
             self.old result self.new };
 
     /// Writes over what stands at a place of the log. Fault: Failed; of these bytes any are there then.
     fn write_log(&mut self, at: usize, bytes: &[u8]) -> Result<(), StoreFault>
-        ensures written { IsTrue (Self.steady self.old) → OnOk result
+        ensures written { OnOk result
             ((Self.seen self.new).commits.log
             ≡ option_map (bytes_over at bytes.now) (Self.seen self.old).commits.log) }
         ensures does { AppendDoes Self.DiskState (InCommits (ChangesLog (Inks at bytes.now)))

@@ -1,16 +1,18 @@
-ghost use Rattle.std.specs.Prelude.{◌≡◌, ◌*◌, ◌^◌, ◌<◌, true, IsTrue, IfOk};
+ghost use Rattle.std.specs.Prelude.{◌≡◌, ◌⊎◌, ◌*◌, ◌^◌, ◌<◌, ◌≤◌, ◌==◌, [], ◌∷◌, length, false, true, IsTrue, IfOk, IfErr, OnErr};
 ghost use Rattle.rec_types.specs.Table.{counted};
 ghost use Rattle.rec_types.specs.Widths.{page_width};
 ghost use Rattle.page_store.specs.StoreFaults.{is_failed, OnlyFails};
 ghost use Rattle.page_journal.specs.Crash.{IsAtRest};
-ghost use Rattle.page_journal.specs.FileDisks.{SetsLength};
+ghost use Rattle.page_journal.specs.FileEvents.{Opened, Grow, Cut, CutTail, all_noted, call_by_numbers, keeps_length, with_noted};
+ghost use Rattle.page_journal.specs.FileDisks.{Notes, Refuses};
 
 use crate::beside::Beside;
+use crate::call_record::Record;
 use crate::disk::Disk;
 use crate::disk_state::DiskState;
 use crate::log_beside::LogBeside;
 use crate::making::is_free;
-use crate::noted::{count_up, noted_call, told_call};
+use crate::noted::{noted_call, told_call};
 use crate::opening_fault::OpeningFault;
 use crate::recovering::look_beside;
 use crate::side_files::SideFiles;
@@ -26,6 +28,47 @@ use std::os::unix::fs::FileExt;
 
 /// The bytes of a page, counted as a file's are.
 const PAGE_BYTES: u64 = PAGE_WIDTH as u64;
+
+// The kinds of what is noted.
+const OPENED: u64 = 0;
+
+const BEGUN_AGAIN: u64 = 1;
+
+const WRITTEN: u64 = 2;
+
+const GROWN: u64 = 3;
+
+const CUT: u64 = 4;
+
+const SYNCED: u64 = 5;
+
+const STARTED: u64 = 6;
+
+const KEPT: u64 = 7;
+
+const FRESH_SYNCED: u64 = 8;
+
+const NAMED: u64 = 9;
+
+const REMOVED: u64 = 10;
+
+const NAMES_SYNCED: u64 = 11;
+
+const LOG_STARTED: u64 = 12;
+
+const FRESH_LOG_SYNCED: u64 = 13;
+
+const LOG_NAMED: u64 = 14;
+
+const LOG_REMOVED: u64 = 15;
+
+const LOG_LENGTHENED: u64 = 16;
+
+const LOG_WRITTEN: u64 = 17;
+
+const LOG_SYNCED: u64 = 18;
+
+const TAIL_CUT: u64 = 19;
 
 /// A page file on a file system, with its side file and its log of commits beside it: for a file FILE these are
 /// `FILE-journal` and `FILE-commits`, with `-new` behind that while they are made. The file is locked against other openings. Its length is taken once, at opening,
@@ -43,25 +86,42 @@ pub struct FileDisk<H, F> {
     settled: bool,
     pages: u64,
     tail: u16,
-    calls: u64,
+    calls: Record,
     failures: u64,
 }
 
 impl<H, F> Model for FileDisk<H, F> {
-    ghost use Rattle.std.specs.Prelude.{◌<◌};
+    ghost use Rattle.std.specs.Prelude.{◌≡◌, ◌<◌, length};
     ghost use Rattle.rec_types.specs.Widths.{page_width};
-    ghost use Rattle.page_journal.specs.FileDisks.{OpenedDisk};
+    ghost use Rattle.page_journal.specs.FileEvents.{FileHistory, history, seen_by};
 
-    ghost Value = { OpenedDisk };
+    ghost Value = { FileHistory };
 
-    ghost view = { λ d. record {
-      pages = d.pages;
-      tail = d.tail;
-      calls = d.calls;
-      failures = d.failures;
-    } };
+    ghost view = { λ d. history d.calls.events d.failures };
 
-    ghost invariant = { λ d. d.tail < page_width };
+    ghost invariant = { λ d. (d.tail < page_width)
+        × (d.pages ≡ length (seen_by d.calls.events).main.pages)
+        × (d.tail ≡ (seen_by d.calls.events).main.tail) };
+}
+
+// What is noted of whether a call failed.
+fn flag_of(answer: &Result<(), StoreFault>) -> u64
+    requires { OnlyFails answer.now }
+    ensures { (result == 1) ≡ is_failed answer.now }
+{
+    match answer {
+        Ok(()) => 0,
+        Err(_) => 1,
+    }
+}
+
+// The record of a file that was just opened.
+fn just_opened(pages: u64, tail: u16) -> Record
+    ensures { result.events ≡ Opened pages tail ∷ [] }
+{
+    let mut calls = Record::new();
+    calls.note(&[OPENED, pages, tail as u64, 0], &[]);
+    calls
 }
 
 /// Where page n begins in the file.
@@ -81,9 +141,9 @@ impl<H: System<File = F> + Drop, F: SystemFile + Drop> FileDisk<H, F> {
     /// Memory.
     pub fn open(rt: H, alloc: Global, path: &str) -> Result<FileDisk<H, F>, OpeningFault>
         ensures rest { IfOk result (λ d. IsAtRest ⟦<FileDisk<H, F> as DiskState>⟧ d) }
-        ensures began { IfOk result (λ d. IsTrue (⟦<FileDisk<H, F> as DiskState>⟧.steady d)
-            → ⟦<FileDisk<H, F> as DiskState>⟧.seen d ≡ ⟦<FileDisk<H, F> as DiskState>⟧.began d) }
-        ensures moment { IfOk result (λ d. d.calls ≡ 0) }
+        ensures began { IfOk result (λ d.
+            ⟦<FileDisk<H, F> as DiskState>⟧.seen d ≡ ⟦<FileDisk<H, F> as DiskState>⟧.began d) }
+        ensures moment { IfOk result (λ d. length d.calls ≡ 0) }
         ensures failures { IfOk result (λ d. d.failures ≡ 0) }
     {
         let names = SideNames::of(&rt, alloc, path)?;
@@ -91,14 +151,15 @@ impl<H: System<File = F> + Drop, F: SystemFile + Drop> FileDisk<H, F> {
         file.try_lock()?;
         let opened = file.facts()?;
         let pages = opened.len / PAGE_BYTES;
+        let tail = (opened.len % PAGE_BYTES) as u16;
         let beside = SideFiles::open(rt, names, opened, pages)?;
         let mut disk = FileDisk {
             file,
             beside,
             settled: false,
             pages,
-            tail: (opened.len % PAGE_BYTES) as u16,
-            calls: 0,
+            tail,
+            calls: just_opened(pages, tail),
             failures: 0,
         };
         if disk.beside.is_some() {
@@ -109,13 +170,15 @@ impl<H: System<File = F> + Drop, F: SystemFile + Drop> FileDisk<H, F> {
 
     // A file that was opened to be read, with what stands beside it.
     fn looked_at(file: F, opened: &FileFacts, beside: SideFiles<H, F>) -> FileDisk<H, F> {
+        let pages = opened.len / PAGE_BYTES;
+        let tail = (opened.len % PAGE_BYTES) as u16;
         FileDisk {
             file,
             beside,
             settled: false,
-            pages: opened.len / PAGE_BYTES,
-            tail: (opened.len % PAGE_BYTES) as u16,
-            calls: 0,
+            pages,
+            tail,
+            calls: just_opened(pages, tail),
             failures: 0,
         }
     }
@@ -162,27 +225,88 @@ impl<H: System<File = F> + Drop, F: SystemFile + Drop> FileDisk<H, F> {
         Ok(())
     }
 
-    // The same before a call that changes something, which counts. Fault: Failed.
+    // The same before a call that changes something. Fault: Failed.
     fn begin_change(&mut self) -> Result<(), StoreFault>
         ensures counts { self.new ≡ record self.old {
-          calls = counted self.old.calls true;
           failures = counted self.old.failures (is_failed result);
         } }
         ensures fault { OnlyFails result }
     {
-        count_up(&mut self.calls);
         let answer = self.settle();
         noted_call(&mut self.failures, answer)
     }
 
-    // Makes the file n pages long, with no tail. Fault: Failed; it is as long as it was then.
-    fn set_pages(&mut self, n: u64) -> Result<(), StoreFault>
-        requires { n < 2 ^ 52 }
-        ensures { SetsLength n self.old result self.new }
+    // Notes a call that was made and leaves the length of the file, and counts its failure.
+    fn made(
+        &mut self,
+        answer: io::Result<()>,
+        kind: u64,
+        a: u64,
+        b: u64,
+        bytes: &[u8],
+    ) -> Result<(), StoreFault>
+        requires call { 2 ≤ kind }
+        requires length { keeps_length (call_by_numbers kind a b bytes.now) ≡ true }
+        ensures notes { Notes (call_by_numbers kind a b bytes.now) self.old result self.new }
+        ensures fault { OnlyFails result }
+    {
+        let answer = noted_call(&mut self.failures, answer);
+        let failed = flag_of(&answer);
+        self.calls.note(&[kind, a, b, failed], bytes);
+        answer
+    }
+
+    // The same without a count.
+    fn appended(
+        &mut self,
+        answer: io::Result<()>,
+        kind: u64,
+        a: u64,
+        b: u64,
+        bytes: &[u8],
+    ) -> Result<(), StoreFault>
+        requires call { 2 ≤ kind }
+        requires length { keeps_length (call_by_numbers kind a b bytes.now) ≡ true }
+        ensures notes { self.new ≡ with_noted self.old (is_failed result) (call_by_numbers kind a b bytes.now) }
+        ensures fault { OnlyFails result }
+    {
+        let answer = told_call(answer);
+        let failed = flag_of(&answer);
+        self.calls.note(&[kind, a, b, failed], bytes);
+        answer
+    }
+
+    // Makes the file n pages long, which is no fewer than it has, with no tail. Fault: Failed; it is as long as it was then.
+    fn lengthen(&mut self, n: u64) -> Result<(), StoreFault>
+        requires few { n < 2 ^ 52 }
+        requires more { length (all_noted self.old.first self.old.calls).main.pages ≤ n }
+        ensures notes { Notes (Grow n) self.old result self.new ⊎ Refuses self.old result self.new }
+        ensures fault { OnlyFails result }
     {
         self.begin_change()?;
         let answer = self.file.set_len(n * PAGE_BYTES);
-        noted_call(&mut self.failures, answer)?;
+        let answer = noted_call(&mut self.failures, answer);
+        let failed = flag_of(&answer);
+        self.calls.note(&[GROWN, n, 0, failed], &[]);
+        answer?;
+        self.pages = n;
+        self.tail = 0;
+        Ok(())
+    }
+
+    // Makes it n pages long, which is no more than it has, with no tail. Fault: Failed; it is as long as it was then.
+    fn shorten(&mut self, n: u64) -> Result<(), StoreFault>
+        requires few { n < 2 ^ 52 }
+        requires less { n ≤ length (all_noted self.old.first self.old.calls).main.pages }
+        ensures notes { Notes (Cut n) self.old result self.new ⊎ Refuses self.old result self.new }
+        ensures fault { OnlyFails result }
+    {
+        self.begin_change()?;
+        let answer = self.file.set_len(n * PAGE_BYTES);
+        let answer = noted_call(&mut self.failures, answer);
+        let failed = flag_of(&answer);
+        self.calls.note(&[CUT, n, 0, failed], &[]);
+        answer?;
         self.pages = n;
         self.tail = 0;
         Ok(())
@@ -190,13 +314,21 @@ impl<H: System<File = F> + Drop, F: SystemFile + Drop> FileDisk<H, F> {
 
     // Cuts the tail off, where there is one. Fault: Failed.
     fn cut_tail(&mut self) -> Result<(), StoreFault>
-        requires { self.old.pages < 2 ^ 52 }
-        ensures { SetsLength self.old.pages self.old result self.new }
+        requires { length (all_noted self.old.first self.old.calls).main.pages < 2 ^ 52 }
+        ensures notes { Notes CutTail self.old result self.new ⊎ (Refuses self.old result self.new ⊎ ((is_failed result ≡ false) × (self.new ≡ self.old))) }
+        ensures fault { OnlyFails result }
     {
         if self.tail == 0 {
             return Ok(());
         }
-        self.set_pages(self.pages)
+        self.begin_change()?;
+        let answer = self.file.set_len(self.pages * PAGE_BYTES);
+        let answer = noted_call(&mut self.failures, answer);
+        let failed = flag_of(&answer);
+        self.calls.note(&[TAIL_CUT, 0, 0, failed], &[]);
+        answer?;
+        self.tail = 0;
+        Ok(())
     }
 }
 
@@ -236,30 +368,31 @@ pub fn has_side_file_or_log<H: System>(
 }
 
 impl<H: System<File = F> + Drop, F: SystemFile + Drop> DiskState for FileDisk<H, F> {
+    ghost use Rattle.std.specs.Prelude.{length};
     ghost use Rattle.page_store.specs.FileValues.{gives_back};
-    ghost use Rattle.page_journal.specs.FileDisks.{files_seen, files_at_opening, may_be_left, left_since_in_files};
+    ghost use Rattle.page_journal.specs.FileEvents.{all_noted, NotedMayLeave, NotedLeftSince};
 
-    ghost began = { λ _. files_at_opening };
+    ghost began = { λ d. d.first };
 
     ghost steady = { λ _. gives_back };
 
-    ghost seen = { λ d. files_seen d.calls d.pages d.tail };
+    ghost seen = { λ d. all_noted d.first d.calls };
 
-    ghost may_leave = { λ d c. may_be_left d.calls c };
+    ghost may_leave = { λ d c. NotedMayLeave d.first d.calls c };
 
-    ghost moment = { λ d. d.calls };
+    ghost moment = { λ d. length d.calls };
 
-    ghost left_since = { λ d t c. left_since_in_files d.calls t c };
+    ghost left_since = { λ d t c. NotedLeftSince d.first d.calls t c };
 
     ghost failures = { λ d. d.failures };
 }
 
 impl<H: System<File = F> + Drop, F: SystemFile + Drop> Disk for FileDisk<H, F> {
-    ghost use Rattle.page_journal.specs.FileDisks.{only_left_at_once, left_at_once};
+    ghost use Rattle.page_journal.specs.FileEvents.{noted_left_now, only_noted_left_now};
 
-    ghost only_now = { λ d c left. only_left_at_once d.calls c left };
+    ghost only_now = { λ d c left. only_noted_left_now d.first d.calls c left };
 
-    ghost counts_now = { λ d t c fits left. left_at_once d.calls t c left };
+    ghost counts_now = { λ d t c fits left. noted_left_now d.first d.calls t c left };
 
     fn shape(&mut self) -> Result<Shape, StoreFault> {
         Ok(Shape {
@@ -276,98 +409,89 @@ impl<H: System<File = F> + Drop, F: SystemFile + Drop> Disk for FileDisk<H, F> {
     fn write(&mut self, n: u32, from: &[u8; PAGE_WIDTH]) -> Result<(), StoreFault> {
         self.begin_change()?;
         let answer = self.file.write_all_at(from, page_start(n));
-        noted_call(&mut self.failures, answer)
+        self.made(answer, WRITTEN, n as u64, 0, from)
     }
 
     /// Cuts the tail off first, so that the pages added are zero.
     fn grow(&mut self, n: u32) -> Result<(), StoreFault> {
         self.cut_tail()?;
-        self.set_pages(u64::from(n))
+        self.lengthen(n as u64)
     }
 
     fn cut(&mut self, n: u32) -> Result<(), StoreFault> {
-        self.set_pages(u64::from(n))
+        self.shorten(n as u64)
     }
 
     fn sync(&mut self) -> Result<(), StoreFault> {
-        count_up(&mut self.calls);
         let answer = self.file.sync_all();
-        noted_call(&mut self.failures, answer)
+        self.made(answer, SYNCED, 0, 0, &[])
     }
 
     fn start(&mut self, long: u32, rest: u64) -> Result<(), StoreFault> {
         self.begin_change()?;
         let answer = self.beside.start(long, rest);
-        noted_call(&mut self.failures, answer)
+        self.made(answer, STARTED, long as u64, rest, &[])
     }
 
     fn keep(&mut self, n: u32, page: &[u8; PAGE_WIDTH]) -> Result<(), StoreFault> {
-        count_up(&mut self.calls);
         let answer = self.beside.keep(n, page);
-        noted_call(&mut self.failures, answer)
+        self.made(answer, KEPT, n as u64, 0, page)
     }
 
     fn sync_fresh(&mut self) -> Result<(), StoreFault> {
-        count_up(&mut self.calls);
         let answer = self.beside.finish();
-        noted_call(&mut self.failures, answer)
+        self.made(answer, FRESH_SYNCED, 0, 0, &[])
     }
 
     fn name(&mut self) -> Result<(), StoreFault> {
-        count_up(&mut self.calls);
         let answer = self.beside.name();
-        noted_call(&mut self.failures, answer)
+        self.made(answer, NAMED, 0, 0, &[])
     }
 
     fn remove(&mut self) -> Result<(), StoreFault> {
-        count_up(&mut self.calls);
         let answer = self.beside.remove();
-        noted_call(&mut self.failures, answer)
+        self.made(answer, REMOVED, 0, 0, &[])
     }
 
     fn sync_names(&mut self) -> Result<(), StoreFault> {
-        count_up(&mut self.calls);
         let answer = self.beside.sync_names();
-        noted_call(&mut self.failures, answer)
+        self.made(answer, NAMES_SYNCED, 0, 0, &[])
     }
 
     fn start_log(&mut self, head: &[u8], room: usize) -> Result<(), StoreFault> {
         self.begin_change()?;
         let answer = self.beside.start_log(head, room);
-        noted_call(&mut self.failures, answer)
+        self.made(answer, LOG_STARTED, room as u64, 0, head)
     }
 
     fn sync_fresh_log(&mut self) -> Result<(), StoreFault> {
-        count_up(&mut self.calls);
         let answer = self.beside.finish_log();
-        noted_call(&mut self.failures, answer)
+        self.made(answer, FRESH_LOG_SYNCED, 0, 0, &[])
     }
 
     fn name_log(&mut self) -> Result<(), StoreFault> {
-        count_up(&mut self.calls);
         let answer = self.beside.name_log();
-        noted_call(&mut self.failures, answer)
+        self.made(answer, LOG_NAMED, 0, 0, &[])
     }
 
     fn remove_log(&mut self) -> Result<(), StoreFault> {
-        count_up(&mut self.calls);
         let answer = self.beside.remove_log();
-        noted_call(&mut self.failures, answer)
+        self.made(answer, LOG_REMOVED, 0, 0, &[])
     }
 
     fn lengthen_log(&mut self, at: usize, n: usize) -> Result<(), StoreFault> {
-        count_up(&mut self.calls);
-        told_call(self.beside.logs().lengthen(at, n))
+        let answer = self.beside.logs().lengthen(at, n);
+        self.appended(answer, LOG_LENGTHENED, at as u64, n as u64, &[])
     }
 
     fn write_log(&mut self, at: usize, bytes: &[u8]) -> Result<(), StoreFault> {
-        count_up(&mut self.calls);
-        told_call(self.beside.logs().write(at, bytes))
+        let answer = self.beside.logs().write(at, bytes);
+        self.appended(answer, LOG_WRITTEN, at as u64, 0, bytes)
     }
 
     fn sync_log(&mut self) -> Result<(), StoreFault> {
-        count_up(&mut self.calls);
-        told_call(self.beside.logs().sync())
+        let answer = self.beside.sync_log();
+        self.appended(answer, LOG_SYNCED, 0, 0, &[])
     }
 
     fn log_length(&mut self) -> Result<Option<u64>, StoreFault> {
@@ -381,7 +505,7 @@ impl<H: System<File = F> + Drop, F: SystemFile + Drop> Disk for FileDisk<H, F> {
     }
 
     fn begin_again(&mut self) -> Result<(), StoreFault> {
-        self.calls = 0;
+        self.calls.note(&[BEGUN_AGAIN, 0, 0, 0], &[]);
         Ok(())
     }
 

@@ -9,7 +9,7 @@ use crate::side_bytes::{
 };
 use crate::side_shape::SideShape;
 use crate::side_tally::SideTally;
-use file_system::{FileKind, System, SystemFile};
+use file_system::{FileFacts, FileKind, System, SystemFile};
 use rec_types::PAGE_WIDTH;
 use std::io;
 use std::os::unix::fs::FileExt;
@@ -98,6 +98,11 @@ impl<F: SystemFile + Drop> KeptSide<F> {
         ensures { result ≡ self.now.shape }
     {
         self.shape
+    }
+
+    /// Which file it is.
+    pub(crate) fn facts(&self) -> io::Result<FileFacts> {
+        self.file.facts()
     }
 
     /// Reads the i-th of its old pages, from 0, and answers the number of that page.

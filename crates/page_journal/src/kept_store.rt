@@ -9,15 +9,16 @@ ghost use Rattle.page_store.specs.StoreCalls.{SealsStore, ChangesStore};
 ghost use Rattle.page_store.specs.StoreFaults.{is_failed};
 ghost use Rattle.page_store.specs.declared.step.Step.{Step};
 ghost use Rattle.commit_paper.specs.Text.{IsUnit, unit_text};
-ghost use Rattle.page_store.specs.Commits.{IsCommit};
+ghost use Rattle.page_store.specs.Commits.{CommitsStore, IsCommit};
 ghost use Rattle.page_journal.specs.Files.{Files, Belongs, recovered};
 ghost use Rattle.page_journal.specs.Logging.{HasLog, IsTextOf, SaysNoneOr};
-ghost use Rattle.page_journal.specs.LoggedStores.{FindsAll, FindsNow, LeavesWithCommits, MayFind, commits_in};
+ghost use Rattle.page_journal.specs.LoggedStores.{BeganAlone, FindsAll, FindsNow, LeavesWithCommits, MayFind, commits_in};
 ghost use Rattle.page_journal.specs.Steps.{CallSyncs, StaysBegun, StaysSteady};
-ghost use Rattle.page_journal.specs.Crash.{IsSettled, IsAtRest, StandsAs, FilesStandFor, StandsForEither};
+ghost use Rattle.page_journal.specs.Crash.{IsSettled, IsAtRest, LeavesOnly, StandsAs, FilesStandFor, StandsForEither};
 ghost use Rattle.page_journal.specs.Recovery.{IsForeign, RecoveryLeaves, is_device_fault};
 ghost use Rattle.page_journal.specs.KeptStores.{IsFinished, KeepsFile, failures_with, guard_of, KeptStored, CanBeSealed, is_writable, may_write_in};
 
+mod calls_out;
 mod file_sum;
 
 use crate::disk::Disk;
@@ -79,11 +80,12 @@ impl<D: Disk + Drop> Model for KeptStore<D> {
       doubt = s.doubt.items;
     } };
 
-    ghost use Rattle.page_journal.specs.LoggedStores.{DoubtStops, FitsIn, IsLogged};
+    ghost use Rattle.page_journal.specs.LoggedStores.{BeganAlone, DoubtStops, FitsIn, KnowsCommits};
 
-    ghost invariant = { λ s. FitsIn s.log × (IsTrue (D.steady s.disk)
+    ghost invariant = { λ s. FitsIn s.log × KnowsCommits D.DiskState s.log s.doubt.items s.disk
+        × DoubtStops s.state s.doubt.items × (IsTrue (D.steady s.disk)
         → IsGuarded D.DiskState (old_file_of D.DiskState s.disk) s.state s.kept.items s.disk
-        × IsLogged D.DiskState s.log s.doubt.items s.disk × DoubtStops s.state s.doubt.items) };
+        × BeganAlone D.DiskState s.log s.disk) };
 }
 
 // Whether page n was kept or is past the old end.
@@ -117,9 +119,8 @@ impl<D: Disk + Drop> KeptStore<D> {
             → IsSettled D.DiskState (recovered (D.began disk)) disk }
         requires time { IsTrue (D.steady disk) → (c : Files) → D.left_since disk 0 c
             → FilesStandFor (recovered (D.began disk)) c }
-        requires log { IsTrue (D.steady disk)
-            → (D.seen disk).commits.log ≡ (D.began disk).commits.log }
-        requires log_time { IsTrue (D.steady disk) → (c : Files) → D.left_since disk 0 c
+        requires log { (D.seen disk).commits.log ≡ (D.began disk).commits.log }
+        requires log_time { (c : Files) → D.left_since disk 0 c
             → c.commits.log ≡ (D.began disk).commits.log }
         ensures { result ≡ record {
           disk = disk;
@@ -152,7 +153,7 @@ impl<D: Disk + Drop> KeptStore<D> {
     /// file, also during this call. Faults: Device, where a call of the disk failed; BadJournal. The disk comes back.
     pub fn open(alloc: Global, disk: D) -> Result<KeptStore<D>, (D, RecoveryFault)>
         requires rest { IsAtRest D.DiskState disk }
-        requires began { IsTrue (D.steady disk) → D.seen disk ≡ D.began disk }
+        requires began { D.seen disk ≡ D.began disk }
         requires moment { D.moment disk ≡ 0 }
         ensures opened { IfOk result (λ s. s ≡ record {
           disk = s.disk;
@@ -172,7 +173,7 @@ impl<D: Disk + Drop> KeptStore<D> {
             × ((D.seen s.disk).main ≡ recovered (D.began disk))) }
         ensures stopped { IsTrue (D.steady disk) → IfErr result (λ stop. (c : Files)
             → D.left_since stop.0 0 c → StandsAs (D.began disk) c) }
-        ensures log { IsTrue (D.steady disk) → IfErr result (λ stop. (c : Files)
+        ensures log { IfErr result (λ stop. (c : Files)
             → D.left_since stop.0 0 c → c.commits.log ≡ (D.began disk).commits.log) }
         ensures bad_journal { IsTrue (D.steady disk) → IfErr result (λ stop.
             stop.1 ≡ RecoveryFault.BadJournal → IsForeign (D.began disk)) }
@@ -197,14 +198,15 @@ impl<D: Disk + Drop> KeptStore<D> {
         ensures begun { IfOk result (λ s. s ≡ record self { disk = s.disk; log = s.log }) }
         ensures keeps { IfOk result (λ s. KeepsFile D.DiskState self.disk s.disk) }
         ensures failures { IfOk result (λ s. D.failures s.disk ≡ D.failures self.disk) }
-        ensures says { IsTrue (D.steady self.disk) → (unit : List (List ℕ)) → IsUnit unit
-            → head.now ≡ unit_text unit
+        ensures says { (D.began self.disk).commits.log ≡ None → (unit : List (List ℕ))
+            → IsUnit unit → head.now ≡ unit_text unit
             → IfOk result (λ s. commits_in s.log (D.seen s.disk) ≡ unit ∷ []) }
         ensures logs { IfOk result (λ s. IsSome s.log) }
-        ensures stopped { IsTrue (D.steady self.disk) → (unit : List (List ℕ)) → IsUnit unit
-            → head.now ≡ unit_text unit → IfErr result (λ stop. (c : Files)
-            → D.left_since stop.0 0 c → FilesStandFor (recovered (D.began self.disk)) c
-            × SaysNoneOr (unit ∷ []) c) }
+        ensures stopped { IsTrue (D.steady self.disk) → IfErr result (λ stop. (c : Files)
+            → D.left_since stop.0 0 c → FilesStandFor (recovered (D.began self.disk)) c) }
+        ensures unbegun { (D.began self.disk).commits.log ≡ None → (unit : List (List ℕ))
+            → IsUnit unit → head.now ≡ unit_text unit → IfErr result (λ stop. (c : Files) → D.left_since stop.0 0 c
+            → SaysNoneOr (unit ∷ []) c) }
         ensures device { IfErr result (λ stop. (D.failures stop.0
             ≡ counted (D.failures self.disk) true) × (stop.1 ≡ StoreFault.Failed)) }
     {
@@ -257,7 +259,9 @@ impl<D: Disk + Drop> KeptStore<D> {
     /// Whether a commit is in doubt. At each moment a crash leaves every commit that was kept, and perhaps the one in doubt.
     pub fn is_in_doubt(&self) -> bool
         ensures value { IsTrue result ↔ (0 < length self.now.doubt) }
-        ensures now { IsTrue (D.steady self.now.disk) → (c : Files)
+        ensures alone { IsTrue (D.steady self.now.disk)
+            → BeganAlone D.DiskState self.now.log self.now.disk }
+        ensures now { BeganAlone D.DiskState self.now.log self.now.disk → (c : Files)
             → D.may_leave self.now.disk c → FindsNow self.now.log (D.began self.now.disk)
             (commits_in self.now.log (D.seen self.now.disk)) self.now.doubt c }
     {
@@ -336,10 +340,11 @@ impl<D: Disk + Drop> KeptStore<D> {
             → LeavesWithCommits self.log (D.began self.disk)
             (commits_in self.log (D.seen self.disk)) self.doubt (recovered (D.began self.disk))
             (D.seen self.disk).main c }
-        ensures all { IsTrue (D.steady self.disk) → OnOk result.1 ((c : Files)
+        ensures alone { IsTrue (D.steady self.disk) → BeganAlone D.DiskState self.log self.disk }
+        ensures all { BeganAlone D.DiskState self.log self.disk → OnOk result.1 ((c : Files)
             → D.may_leave result.0 c → FindsAll self.log (D.began self.disk)
             (commits_in self.log (D.seen self.disk)) c) }
-        ensures now { IsTrue (D.steady self.disk) → (c : Files) → D.may_leave result.0 c
+        ensures now { BeganAlone D.DiskState self.log self.disk → (c : Files) → D.may_leave result.0 c
             → FindsNow self.log (D.began self.disk) (commits_in self.log (D.seen self.disk))
             self.doubt c }
     {
@@ -365,10 +370,11 @@ impl<D: Disk + Drop> KeptStore<D> {
             → OnOk result.1 ((D.seen result.0).main ≡ recovered (D.began self.disk)) }
         ensures any_moment { IsTrue (D.steady self.disk) → (c : Files) → D.left_since result.0 0 c
             → FilesStandFor (recovered (D.began self.disk)) c }
-        ensures commits { IsTrue (D.steady self.disk) → (c : Files) → D.left_since result.0 0 c
+        ensures alone { IsTrue (D.steady self.disk) → BeganAlone D.DiskState self.log self.disk }
+        ensures commits { BeganAlone D.DiskState self.log self.disk → (c : Files) → D.left_since result.0 0 c
             → MayFind self.log (D.began self.disk) (commits_in self.log (D.seen self.disk))
             self.doubt c }
-        ensures now { IsTrue (D.steady self.disk) → (c : Files) → D.may_leave result.0 c
+        ensures now { BeganAlone D.DiskState self.log self.disk → (c : Files) → D.may_leave result.0 c
             → FindsNow self.log (D.began self.disk) (commits_in self.log (D.seen self.disk))
             self.doubt c }
         ensures fault { IsTrue (D.steady self.disk) → result.1 ≢ Err RecoveryFault.BadJournal }
@@ -534,7 +540,21 @@ impl<D: Disk + Drop> SealStore for KeptStore<D> {
 }
 
 impl<D: Disk + Drop> CommitStore for KeptStore<D> {
-    fn keep_commit(&mut self, text: Vec<u8>) -> Result<(), AppendFault> {
+    /// Keeps a commit, whose text this is. At `Ok` a crash at any later moment leaves it kept; until then it leaves every
+    /// commit that was kept, and perhaps this one. It changes no page, and counts as no call of the store. Faults: Room, as
+    /// where no log was begun; Doubt, as where pages were kept aside or an earlier commit is in doubt, after which no page
+    /// may be written over.
+    fn keep_commit(&mut self, text: Vec<u8>) -> Result<(), AppendFault>
+        requires { IsCommit text.items }
+        ensures commits { CommitsStore ⟦<KeptStore<D> as StoreState>⟧ text.items self.old result self.new }
+        ensures alone { IsTrue (D.steady self.old.disk)
+            → BeganAlone D.DiskState self.old.log self.old.disk }
+        ensures any_moment { BeganAlone D.DiskState self.old.log self.old.disk
+            → self.old.state ≡ SealState.Unsealed → LeavesOnly D.DiskState
+            (FindsNow self.old.log (D.began self.old.disk)
+            (commits_in self.old.log (D.seen self.old.disk)) text.items)
+            self.old.disk self.new.disk }
+    {
         let Some(mut place) = self.log else {
             return Err(AppendFault::Room);
         };

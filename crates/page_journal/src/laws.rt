@@ -1,19 +1,30 @@
 //! Facts of the definitions that contracts of this crate cite.
-ghost use Rattle.std.specs.Prelude.{◌≡◌, ◌≢◌, ℕ, List, [], ◌∷◌, ◌++◌, Some, None, All, take};
+ghost use Rattle.std.specs.Prelude.{◌≡◌, ◌≢◌, ℕ, List, [], ◌∷◌, ◌++◌, Some, None, All, take, true, false};
 ghost use Rattle.page_store.specs.Journal.{carried};
 ghost use Rattle.page_store.specs.declared.step.Step.{Step};
 ghost use Rattle.page_journal.specs.Carrying.{LeavesOf, WritesKept};
 ghost use Rattle.page_journal.specs.Files.{PageFile, SideFile, Files, Agree, IsOf, restored, recovered};
 ghost use Rattle.page_journal.specs.Crash.{FilesStandFor, StandsForEither, Gathered};
 ghost use Rattle.page_journal.specs.History.{all_done, MayLeave, LeftSince};
-ghost use Rattle.page_journal.specs.Examples.{pages_of_two, without_side_file, old_file, word, words, word_kept, page_1_kept, page_1_written_over, both_written, both_writes, side_made, side_named, named_early, log_made, log_named_early, with_log, page_1_steps, both_steps};
+ghost use Rattle.page_journal.specs.Examples.{pages_of_two, without_side_file, old_file, word, words, word_kept, page_1_kept, page_1_written_over, both_written, both_writes, side_made, side_named, named_early, log_made, log_named_early, with_log, page_1_steps, both_steps, noted_write_and_sync, three_noted, noted_over};
 ghost use Rattle.page_store.specs.Blank.{blank};
 ghost use Rattle.page_journal.specs.Sums.{sum_start, sum_on, sum_of_all};
 ghost use Rattle.page_journal.specs.SideBytes.{side_header, entry_bytes, side_bytes, read_side, IsSideFile, TakesEntries};
+ghost use Rattle.std.specs.Prelude.{◌<◌, ◌≤◌, ◌*◌, length, slice_set};
+ghost use Rattle.rec_types.specs.Widths.{page_width};
+ghost use Rattle.page_journal.specs.SideBytes.{first_tally, tally_on};
+ghost use Rattle.page_journal.specs.Steps.{kept_more};
+ghost use Rattle.page_journal.specs.Fates.{first_calls};
+ghost use Rattle.page_journal.specs.Lowering.{Lowered, lowered_call, lowered_next};
+ghost use Rattle.page_journal.specs.Bytes.{Stored, AreWhole, all_carried, fresh_bytes, pages_in};
 ghost use Rattle.page_journal.specs.declared.commit_call.CommitCall.{CommitCall};
 ghost use Rattle.page_journal.specs.declared.disk_call.DiskCall.{DiskCall};
 ghost use Rattle.std.specs.Prelude.{Vec};
 ghost use Rattle.std.specs.declared.alloc.Global.{Global};
+
+use crate::disk_state::DiskState;
+use crate::file_disk::FileDisk;
+use file_system::{System, SystemFile};
 
 /// What old pages leave that are put back depends on no page that was kept, and on nothing past the old end. In the
 /// example page 1 of two was kept, then it was written over and a page was added. It fails where a page was written
@@ -74,6 +85,20 @@ pub fn writes_by_example()
         → c.main ≡ pages_of_two 7 9) → ⊥ }
     ensures other_page { MayLeave (without_side_file old_file) (DiskCall.Write 0 (7 ∷ []) ∷ [])
         (without_side_file (pages_of_two 7 9)) → ⊥ }
+{}
+
+/// Three calls that a disk in files noted: page 0 was written, a sync failed, and page 1 was written. Reads see both pages as
+/// written, and a crash may have lost the first. It fails where the last call is left out, and where the sync is told as done.
+pub fn notes_by_example<H: System<File = F> + Drop, F: SystemFile + Drop>()
+    ensures seen { ⟦<FileDisk<H, F> as DiskState>⟧.seen (noted_over (three_noted true))
+        ≡ without_side_file (pages_of_two 7 9) }
+    ensures lost { ⟦<FileDisk<H, F> as DiskState>⟧.may_leave (noted_over (three_noted true))
+        (without_side_file (pages_of_two 1 9)) }
+    ensures moment { ⟦<FileDisk<H, F> as DiskState>⟧.moment (noted_over (three_noted true)) ≡ 3 }
+    ensures left_out { ⟦<FileDisk<H, F> as DiskState>⟧.seen (noted_over (noted_write_and_sync true))
+        ≢ without_side_file (pages_of_two 7 9) }
+    ensures told_as_done { ⟦<FileDisk<H, F> as DiskState>⟧.may_leave (noted_over (three_noted false))
+        (without_side_file (pages_of_two 1 9)) → ⊥ }
 {}
 
 /// Both pages are kept beside the file. Where the side file was synced before it got the name, a crash leaves files that
@@ -151,4 +176,38 @@ pub fn side_file_by_bytes()
       pages = (0, blank) ∷ (1, blank) ∷ [];
     })
         → ⊥ }
+{}
+
+/// What the calls of the system that calls of a disk are leave in bytes, as reads see it. A page that is written is that
+/// page, and nothing else of the pages changes. A side file is begun empty; each old page stands behind those before
+/// it, whose place is known from how many there are; its header makes it a whole side file, which then gets its name.
+pub fn calls_in_bytes()
+    ensures page { (l : Lowered) (s : Stored) (n : ℕ) (page : List ℕ) → length page ≡ page_width
+        → n < l.pages → l.pages * page_width ≤ length s.main
+        → pages_in page_width l.pages (all_carried (lowered_call l (DiskCall.Write n page)) s).main
+        ≡ slice_set (pages_in page_width l.pages s.main) n page }
+    ensures begun { (l : Lowered) (s : Stored) (long rest : ℕ)
+        → ((all_carried (lowered_call l (DiskCall.Start long rest)) s).fresh ≡ Some (fresh_bytes []))
+        × ((lowered_next l (DiskCall.Start long rest)).tally ≡ tally_on (first_tally long (Some rest)) []) }
+    ensures kept { (l : Lowered) (s : Stored) (kept : SideFile) (rest n : ℕ) (page : List ℕ)
+        → AreWhole kept.pages → kept.rest ≡ Some rest
+        → l.tally ≡ tally_on (first_tally kept.long kept.rest) kept.pages
+        → s.fresh ≡ Some (fresh_bytes kept.pages)
+        → ((all_carried (lowered_call l (DiskCall.Keep n page)) s).fresh
+        ≡ Some (fresh_bytes (kept_more kept n page).pages))
+        × ((lowered_next l (DiskCall.Keep n page)).tally
+        ≡ tally_on (first_tally kept.long kept.rest) (kept_more kept n page).pages) }
+    ensures made { (l : Lowered) (s : Stored) (kept : SideFile) (rest : ℕ) → kept.rest ≡ Some rest
+        → l.tally ≡ tally_on (first_tally kept.long kept.rest) kept.pages
+        → s.fresh ≡ Some (fresh_bytes kept.pages)
+        → (all_carried (lowered_call l DiskCall.SyncFresh) s).fresh ≡ Some (side_bytes kept) }
+    ensures named { (l : Lowered) (s : Stored) (kept : SideFile) → s.fresh ≡ Some (side_bytes kept)
+        → (all_carried (lowered_call l DiskCall.Name) s).side ≡ Some (side_bytes kept) }
+{}
+
+/// A front of the calls of a disk, the last of them done whole, in part or not at all, leaves what might have been left
+/// since a moment before its end.
+pub fn fronts_of_calls()
+    ensures { (first : Files) (calls : List DiskCall) (t k : ℕ) (c : Files) → t ≤ k
+        → k ≤ length calls → MayLeave first (first_calls k calls) c → LeftSince first calls t c }
 {}

@@ -144,31 +144,25 @@ impl<F: SystemFile + Drop> LogFiles<F> {
         }
     }
 
-    /// Gives it the other name, where nothing has that.
-    pub(crate) fn name<H: System<File = F>>(
-        &mut self,
-        rt: &H,
-        fresh: &str,
-        log: &str,
-    ) -> io::Result<()> {
-        let Some(file) = self.fresh.take() else {
-            return Err(no_such_call());
-        };
-        match rt.facts_here(log) {
-            Err(error) if error.kind() == io::ErrorKind::NotFound => {}
-            Err(error) => return Err(error),
-            Ok(_) => return Err(no_such_call()),
+    /// Hands it out, to get the other name.
+    pub(crate) fn take_made(&mut self) -> io::Result<F> {
+        match self.fresh.take() {
+            Some(file) => Ok(file),
+            None => Err(no_such_call()),
         }
-        rt.rename(fresh, log)?;
-        self.log = Some(file);
-        Ok(())
     }
 
-    /// Takes the log of that name away.
-    pub(crate) fn remove<H: System<File = F>>(&mut self, rt: &H, log: &str) -> io::Result<()> {
-        rt.remove(log)?;
-        self.log = None;
-        Ok(())
+    /// Has this file, which has the name that an opening looks for.
+    pub(crate) fn put(&mut self, file: F) {
+        self.log = Some(file);
+    }
+
+    /// Which file the log is.
+    pub(crate) fn facts(&self) -> io::Result<FileFacts> {
+        match &self.log {
+            Some(file) => file.facts(),
+            None => Err(no_such_call()),
+        }
     }
 
     /// Makes the log so many zeros from a place on. Where that fails the log ends at the place, as far as the system does that:

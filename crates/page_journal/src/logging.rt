@@ -28,10 +28,10 @@ pub fn begin_log<D: Disk>(disk: &mut D, head: &[u8], room: usize) -> Result<LogP
     ensures steady { StaysSteady D.DiskState disk.old disk.new }
     ensures began { StaysBegun D.DiskState disk.old disk.new }
     ensures pages { LeavesPages D.DiskState disk.old disk.new }
-    ensures ready { IsTrue (D.steady disk.old) → HasNoLog D.DiskState disk.old
+    ensures ready { HasNoLog D.DiskState disk.old
         → (unit : List (List ℕ)) → IsUnit unit → head.now ≡ unit_text unit
         → IfOk result (λ place. IsReady D.DiskState (unit ∷ []) place disk.new) }
-    ensures any_moment { IsTrue (D.steady disk.old) → HasNoLog D.DiskState disk.old
+    ensures any_moment { HasNoLog D.DiskState disk.old
         → (unit : List (List ℕ)) → IsUnit unit → head.now ≡ unit_text unit
         → LeavesOnly D.DiskState (SaysNoneOr (unit ∷ [])) disk.old disk.new }
     ensures fits { IfOk result (λ place. place.end ≤ place.long) }
@@ -54,11 +54,11 @@ fn lengthen<D: Disk>(disk: &mut D, place: &mut LogPlace, room: usize) -> Result<
     requires end { place.old.end ≤ place.old.long }
     ensures disk { StaysUncounted D.DiskState disk.old disk.new }
     ensures pages { LeavesPages D.DiskState disk.old disk.new }
-    ensures ready { IsTrue (D.steady disk.old) → (units : List (List (List ℕ)))
+    ensures ready { (units : List (List (List ℕ)))
         → IsReady D.DiskState units place.old disk.old
         → IsReady D.DiskState units place.new disk.new }
     ensures room { OnOk result (HasRoom room place.new) }
-    ensures any_moment { IsTrue (D.steady disk.old) → (units : List (List (List ℕ)))
+    ensures any_moment { (units : List (List (List ℕ)))
         → IsReady D.DiskState units place.old disk.old
         → LeavesOnly D.DiskState (Says units) disk.old disk.new }
     ensures end { StaysWithin place.old place.new }
@@ -75,11 +75,11 @@ fn make_room<D: Disk>(disk: &mut D, place: &mut LogPlace, room: usize) -> Result
     requires end { place.old.end ≤ place.old.long }
     ensures disk { StaysUncounted D.DiskState disk.old disk.new }
     ensures pages { LeavesPages D.DiskState disk.old disk.new }
-    ensures ready { IsTrue (D.steady disk.old) → (units : List (List (List ℕ)))
+    ensures ready { (units : List (List (List ℕ)))
         → IsReady D.DiskState units place.old disk.old
         → IsReady D.DiskState units place.new disk.new }
     ensures room { OnOk result (HasRoom room place.new) }
-    ensures any_moment { IsTrue (D.steady disk.old) → (units : List (List (List ℕ)))
+    ensures any_moment { (units : List (List (List ℕ)))
         → IsReady D.DiskState units place.old disk.old
         → LeavesOnly D.DiskState (Says units) disk.old disk.new }
     ensures end { StaysWithin place.old place.new }
@@ -98,15 +98,15 @@ fn ink<D: Disk>(disk: &mut D, place: &mut LogPlace, text: &[u8]) -> Result<(), S
     requires { HasRoom (length text.now) place.old }
     ensures disk { StaysUncounted D.DiskState disk.old disk.new }
     ensures pages { LeavesPages D.DiskState disk.old disk.new }
-    ensures done { IsTrue (D.steady disk.old) → (units : List (List (List ℕ)))
+    ensures done { (units : List (List (List ℕ)))
         → (unit : List (List ℕ)) → IsReady D.DiskState units place.old disk.old → IsUnit unit
         → text.now ≡ unit_text unit
         → OnOk result (IsReady D.DiskState (units ++ unit ∷ []) place.new disk.new) }
-    ensures any_moment { IsTrue (D.steady disk.old) → (units : List (List (List ℕ)))
+    ensures any_moment { (units : List (List (List ℕ)))
         → (unit : List (List ℕ)) → IsReady D.DiskState units place.old disk.old → IsUnit unit
         → text.now ≡ unit_text unit
         → LeavesOnly D.DiskState (SaysEither units unit) disk.old disk.new }
-    ensures stand { IsTrue (D.steady disk.old) → (units : List (List (List ℕ)))
+    ensures stand { (units : List (List (List ℕ)))
         → IsReady D.DiskState units place.old disk.old
         → OnErr result (StandsInLog units place.new (D.seen disk.new)) }
     ensures end { OnErr result (place.new ≡ place.old) }
@@ -125,18 +125,18 @@ pub fn append<D: Disk>(disk: &mut D, place: &mut LogPlace, text: &[u8]) -> Resul
     requires end { place.old.end ≤ place.old.long }
     ensures disk { StaysUncounted D.DiskState disk.old disk.new }
     ensures pages { LeavesPages D.DiskState disk.old disk.new }
-    ensures done { IsTrue (D.steady disk.old) → (units : List (List (List ℕ)))
+    ensures done { (units : List (List (List ℕ)))
         → (unit : List (List ℕ)) → IsReady D.DiskState units place.old disk.old → IsUnit unit
         → text.now ≡ unit_text unit
         → OnOk result (IsReady D.DiskState (units ++ unit ∷ []) place.new disk.new) }
-    ensures no_room { IsTrue (D.steady disk.old) → (units : List (List (List ℕ)))
+    ensures no_room { (units : List (List (List ℕ)))
         → IsReady D.DiskState units place.old disk.old → IsErrOf result AppendFault.Room
         → IsReady D.DiskState units place.new disk.new
         × LeavesOnly D.DiskState (Says units) disk.old disk.new }
-    ensures doubt { IsTrue (D.steady disk.old) → (units : List (List (List ℕ)))
+    ensures doubt { (units : List (List (List ℕ)))
         → IsReady D.DiskState units place.old disk.old → IsErrOf result AppendFault.Doubt
         → StandsInLog units place.new (D.seen disk.new) }
-    ensures any_moment { IsTrue (D.steady disk.old) → (units : List (List (List ℕ)))
+    ensures any_moment { (units : List (List (List ℕ)))
         → (unit : List (List ℕ)) → IsReady D.DiskState units place.old disk.old → IsUnit unit
         → text.now ≡ unit_text unit
         → LeavesOnly D.DiskState (SaysEither units unit) disk.old disk.new }

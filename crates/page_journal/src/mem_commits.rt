@@ -1,4 +1,4 @@
-ghost use Rattle.std.specs.Prelude.{◌≡◌, ◌++◌, [], option_map, IsTrue, IfOk, OnOk};
+ghost use Rattle.std.specs.Prelude.{◌≡◌, ◌++◌, [], option_map, IsTrue, IfOk, IfErr, OnOk};
 ghost use Rattle.commit_paper.specs.Text.{zeros};
 ghost use Rattle.page_journal.specs.Files.{no_commits};
 ghost use Rattle.page_journal.specs.Steps.{bytes_over, zeroed};
@@ -69,6 +69,24 @@ impl LogBytes {
         })
     }
 
+    /// These bytes over what stands at a place, where they lie if there is room. Where there is no memory, all comes back as
+    /// it was.
+    fn put(self, at: usize, bytes: &[u8]) -> Result<LogBytes, LogBytes>
+        ensures ok { IfOk result (λ log. log ≡ bytes_over at bytes.now self) }
+        ensures err { IfErr result (λ log. log ≡ self) }
+    {
+        let mut log = self;
+        let long = log.bytes.len();
+        if at <= long && bytes.len() <= long - at {
+            log.bytes[at..at + bytes.len()].copy_from_slice(bytes);
+            return Ok(log);
+        }
+        match log.written(at, bytes) {
+            Ok(next) => Ok(next),
+            Err(_) => Err(log),
+        }
+    }
+
     /// These bytes over what stands at a place. Fault: Memory.
     fn written(&self, at: usize, bytes: &[u8]) -> Result<LogBytes, Memory>
         ensures { IfOk result (λ log. log ≡ bytes_over at bytes.now self.now) }
@@ -110,6 +128,24 @@ impl MemCommits {
             fresh: LogBytes::new(alloc),
             log: None,
             alloc,
+        }
+    }
+
+    /// The log of these bytes, or none.
+    pub(crate) fn over(alloc: Global, log: Option<Vec<u8>>) -> MemCommits
+        ensures { result ≡ record { fresh = []; log = option_map (λ bytes. bytes.items) log } }
+    {
+        match log {
+            Some(bytes) => MemCommits {
+                fresh: LogBytes::new(alloc),
+                log: Some(LogBytes { bytes, alloc }),
+                alloc,
+            },
+            None => MemCommits {
+                fresh: LogBytes::new(alloc),
+                log: None,
+                alloc,
+            },
         }
     }
 
@@ -207,9 +243,18 @@ impl MemCommits {
         ensures ok { OnOk result (self.new ≡ record self.old { log = option_map (bytes_over at bytes.now) self.old.log }) }
         ensures err { StaysOnErr result self.old self.new }
     {
-        if let Some(log) = &self.log {
-            self.log = Some(log.written(at, bytes)?);
+        match mem::replace(&mut self.log, None) {
+            None => Ok(()),
+            Some(log) => match log.put(at, bytes) {
+                Ok(next) => {
+                    self.log = Some(next);
+                    Ok(())
+                }
+                Err(same) => {
+                    self.log = Some(same);
+                    Err(Memory)
+                }
+            },
         }
-        Ok(())
     }
 }

@@ -1,6 +1,6 @@
 ghost use Rattle.std.specs.Prelude.{◌≡◌, ◌≤◌, None, IfOk, IfSome};
 ghost use Rattle.std.specs.Option.{option_map};
-ghost use Rattle.file_system.specs.Facts.{IsAlone};
+ghost use Rattle.file_system.specs.Facts.{IsAlone, IsSameFile};
 
 use crate::fresh_side::{BEING_MADE, FreshSide};
 use crate::kept_side::{KeptSide, no_such_call};
@@ -9,7 +9,7 @@ use crate::opening_fault::OpeningFault;
 use crate::side_bytes::SIDE_START;
 use crate::side_names::SideNames;
 use crate::side_shape::SideShape;
-use file_system::{FileFacts, FileKind, System, SystemFile};
+use file_system::{ChangeTime, FileFacts, FileKind, System, SystemFile};
 use rec_types::PAGE_WIDTH;
 use std::io;
 use std::os::unix::fs::FileExt;
@@ -26,6 +26,8 @@ pub(crate) struct SideFiles<H, F> {
     fresh: Option<FreshSide<F>>,
     side: Option<KeptSide<F>>,
     logs: LogFiles<F>,
+    /// The last change of the folder's names after which they were seen to lead to the file and its log.
+    looked: Option<ChangeTime>,
 }
 
 // Fails where the name leads to another file than that which was opened, or that has another name, too: under each of two
@@ -41,16 +43,56 @@ fn expect_alone<H: System>(rt: &H, name: &str, opened: &FileFacts) -> io::Result
     }
 }
 
-// Gives the side file of a file that was found to be the one that was opened the name that an opening looks for.
+// Fails where something has that name.
+fn expect_free<H: System>(rt: &H, name: &str) -> io::Result<()> {
+    match rt.facts_here(name) {
+        Err(error) if error.kind() == io::ErrorKind::NotFound => Ok(()),
+        Err(error) => Err(error),
+        Ok(_) => Err(no_such_call()),
+    }
+}
+
+// Fails where something else has that name than the file of which these are known: who has a name isn't looked at as long as
+// a file is open.
+fn expect_own<H: System>(rt: &H, name: &str, own: &FileFacts) -> io::Result<FileFacts>
+    ensures { IfOk result (λ found. IsSameFile found own.now) }
+{
+    let found = rt.facts_here(name)?;
+    if found.is_same_file(own) {
+        Ok(found)
+    } else {
+        Err(no_such_call())
+    }
+}
+
+// What is known before a file beside the one that was opened gets its name: what the path leads to, and what has the name of
+// its making.
+#[derive(Clone, Copy)]
+struct Found {
+    main: FileFacts,
+    made: FileFacts,
+}
+
+// Gives a file that was made beside the one that was opened the name that an opening looks for.
 fn give_name<H: System>(
     rt: &H,
-    names: &SideNames,
+    made: &str,
+    name: &str,
     opened: &FileFacts,
-    found: &FileFacts,
+    own: &FileFacts,
+    found: &Found,
 ) -> io::Result<()>
-    requires { IsAlone opened.now found.now }
+    requires main { IsAlone opened.now found.now.main }
+    requires own { IsSameFile found.now.made own.now }
 {
-    rt.rename(names.fresh.as_str(), names.side.as_str())
+    rt.rename(made, name)
+}
+
+// Takes the name of a file away that was found to have it.
+fn take_name<H: System>(rt: &H, name: &str, own: &FileFacts, found: &FileFacts) -> io::Result<()>
+    requires { IsSameFile found.now own.now }
+{
+    rt.remove(name)
 }
 
 // Whether what has that name may have been left by a stop while it was being made: it is empty, nobody may open it, or it
@@ -145,6 +187,7 @@ impl<H: System<File = F> + Drop, F: SystemFile + Drop> SideFiles<H, F> {
             fresh: None,
             side,
             logs,
+            looked: None,
         })
     }
 
@@ -167,6 +210,7 @@ impl<H: System<File = F> + Drop, F: SystemFile + Drop> SideFiles<H, F> {
             fresh: None,
             side,
             logs: LogFiles::new(),
+            looked: None,
         })
     }
 
@@ -188,6 +232,7 @@ impl<H: System<File = F> + Drop, F: SystemFile + Drop> SideFiles<H, F> {
             fresh: None,
             side: None,
             logs,
+            looked: None,
         })
     }
 
@@ -255,20 +300,26 @@ impl<H: System<File = F> + Drop, F: SystemFile + Drop> SideFiles<H, F> {
             return Err(no_such_call());
         };
         let side = fresh.whole()?;
-        self.expect_no_side()?;
-        let found = self.still_leads()?;
-        give_name(&self.rt, &self.names, &self.opened, &found)?;
+        let own = side.facts()?;
+        self.put_in_place(self.names.fresh.as_str(), self.names.side.as_str(), &own)?;
         self.side = Some(side);
         Ok(())
     }
 
-    // Fails where something has the name that an opening looks for.
-    fn expect_no_side(&self) -> io::Result<()> {
-        match self.rt.facts_here(self.names.side.as_str()) {
-            Err(error) if error.kind() == io::ErrorKind::NotFound => Ok(()),
-            Err(error) => Err(error),
-            Ok(_) => Err(no_such_call()),
-        }
+    // Gives a file that was made under the one name the other, where the path still leads to the file and nothing has that name.
+    fn put_in_place(&self, made: &str, name: &str, own: &FileFacts) -> io::Result<()> {
+        expect_free(&self.rt, name)?;
+        let found = Found {
+            made: expect_own(&self.rt, made, own)?,
+            main: self.still_leads()?,
+        };
+        give_name(&self.rt, made, name, &self.opened, own, &found)
+    }
+
+    // Takes a file of that name away, where that is the one of which these are known.
+    fn take_own(&self, name: &str, own: &FileFacts) -> io::Result<()> {
+        let found = expect_own(&self.rt, name, own)?;
+        take_name(&self.rt, name, own, &found)
     }
 
     // The answer of a call; where it failed, the side file that was being made is removed, as far as the system does that.
@@ -280,9 +331,13 @@ impl<H: System<File = F> + Drop, F: SystemFile + Drop> SideFiles<H, F> {
         answer
     }
 
-    /// Takes the side file of that name away.
+    /// Takes the side file of that name away, where it is the one that was opened or made.
     pub(crate) fn remove(&mut self) -> io::Result<()> {
-        self.rt.remove(self.names.side.as_str())?;
+        let Some(side) = &self.side else {
+            return Err(no_such_call());
+        };
+        let own = side.facts()?;
+        self.take_own(self.names.side.as_str(), &own)?;
         self.side = None;
         Ok(())
     }
@@ -300,15 +355,38 @@ impl<H: System<File = F> + Drop, F: SystemFile + Drop> SideFiles<H, F> {
         self.logs.finish(self.opened.mode)
     }
 
-    /// Gives it the name that an opening looks for, where nothing has that name.
+    /// Gives it the name that an opening looks for, where the path still leads to the file and nothing has that name.
     pub(crate) fn name_log(&mut self) -> io::Result<()> {
-        let SideNames { fresh_log, log, .. } = &self.names;
-        self.logs.name(&self.rt, fresh_log.as_str(), log.as_str())
+        let log = self.logs.take_made()?;
+        let own = log.facts()?;
+        self.put_in_place(self.names.fresh_log.as_str(), self.names.log.as_str(), &own)?;
+        self.logs.put(log);
+        Ok(())
     }
 
-    /// Takes the log of that name away.
+    /// Has the device keep what was written to the log. It fails where an opening would find another log, or another file.
+    pub(crate) fn sync_log(&mut self) -> io::Result<()> {
+        self.logs.sync()?;
+        let names = self.folder.facts()?.changed;
+        if self.looked == Some(names) {
+            return Ok(());
+        }
+        let own = self.logs.facts()?;
+        expect_own(&self.rt, self.names.log.as_str(), &own)?;
+        self.still_leads()?;
+        // A later change in the same step of the clock wouldn't be seen.
+        if names < own.changed {
+            self.looked = Some(names);
+        }
+        Ok(())
+    }
+
+    /// Takes the log of that name away, where it is the one that was opened or made.
     pub(crate) fn remove_log(&mut self) -> io::Result<()> {
-        self.logs.remove(&self.rt, self.names.log.as_str())
+        let own = self.logs.facts()?;
+        self.take_own(self.names.log.as_str(), &own)?;
+        self.logs = LogFiles::new();
+        Ok(())
     }
 
     /// The logs of commits.

@@ -1,4 +1,4 @@
-use Rattle.std.proofs.Common.{inl, ◌∙◌}
+use Rattle.std.proofs.Common.{inl}
 use Rattle.page_journal.specs.Crash.{pages_of}
 use Rattle.page_journal.specs.Logging.{Says, SaysEither}
 use Rattle.page_journal.proofs.MomentLemmas.{then_runs, weaker}
@@ -12,15 +12,15 @@ pub returns-clause-pages : goal.returns-clause-pages
 returns-clause-pages g c = part_then g.D.DiskState pages_of c.args.disk.now c.make_room.new.disk c.ink.new.disk c.make_room.ensures.pages c.ink.ensures.pages
 
 pub returns-in_default-clause-any_moment : goal.returns-in_default-clause-any_moment
-returns-in_default-clause-any_moment g c steady units unit ready is spelt = weaker g.D.DiskState (Says units) (SaysEither units unit) c.args.disk.now c.make_room.new.disk (λ f says. inl says) (c.make_room.ensures.any_moment steady units ready)
+returns-in_default-clause-any_moment g c units unit ready is spelt = weaker g.D.DiskState (Says units) (SaysEither units unit) c.args.disk.now c.make_room.new.disk (λ f says. inl says) (c.make_room.ensures.any_moment units ready)
 
 pub returns-in_default-ink-clause-any_moment : goal.returns-in_default-ink-clause-any_moment
-returns-in_default-ink-clause-any_moment g c steady units unit ready is spelt =
-    then_runs g.D.DiskState (SaysEither units unit) c.args.disk.now c.make_room.new.disk c.ink.new.disk (weaker g.D.DiskState (Says units) (SaysEither units unit) c.args.disk.now c.make_room.new.disk (λ f says. inl says) (c.make_room.ensures.any_moment steady units ready)) (c.ink.ensures.any_moment (c.make_room.ensures.disk.0 ∙ steady) units unit (c.make_room.ensures.ready steady units ready) is spelt)
+returns-in_default-ink-clause-any_moment g c units unit ready is spelt =
+    then_runs g.D.DiskState (SaysEither units unit) c.args.disk.now c.make_room.new.disk c.ink.new.disk (weaker g.D.DiskState (Says units) (SaysEither units unit) c.args.disk.now c.make_room.new.disk (λ f says. inl says) (c.make_room.ensures.any_moment units ready)) (c.ink.ensures.any_moment units unit (c.make_room.ensures.ready units ready) is spelt)
 
 pub returns-clause-any_moment : goal.returns-clause-any_moment
-returns-clause-any_moment g c steady units unit ready is spelt =
-    then_runs g.D.DiskState (SaysEither units unit) c.args.disk.now c.make_room.new.disk c.ink.new.disk (weaker g.D.DiskState (Says units) (SaysEither units unit) c.args.disk.now c.make_room.new.disk (λ f says. inl says) (c.make_room.ensures.any_moment steady units ready)) (c.ink.ensures.any_moment (c.make_room.ensures.disk.0 ∙ steady) units unit (c.make_room.ensures.ready steady units ready) is spelt)
+returns-clause-any_moment g c units unit ready is spelt =
+    then_runs g.D.DiskState (SaysEither units unit) c.args.disk.now c.make_room.new.disk c.ink.new.disk (weaker g.D.DiskState (Says units) (SaysEither units unit) c.args.disk.now c.make_room.new.disk (λ f says. inl says) (c.make_room.ensures.any_moment units ready)) (c.ink.ensures.any_moment units unit (c.make_room.ensures.ready units ready) is spelt)
 
 pub returns-in_default-clause-no_room : goal.returns-in_default-clause-no_room
-returns-in_default-clause-no_room g c steady units ready room = (c.make_room.ensures.ready steady units ready, c.make_room.ensures.any_moment steady units ready)
+returns-in_default-clause-no_room g c units ready room = (c.make_room.ensures.ready units ready, c.make_room.ensures.any_moment units ready)

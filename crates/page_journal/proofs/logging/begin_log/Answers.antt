@@ -1,4 +1,4 @@
-use Rattle.std.proofs.Common.{◌≡◌, ◌∙◌, refl, length, ◌+◌, IsTrue}
+use Rattle.std.proofs.Common.{refl, length, ◌+◌}
 use Rattle.page_journal.specs.Crash.{pages_of}
 use Rattle.page_journal.specs.Steps.{InCommits, FreshLog, NamesLog}
 use Rattle.page_journal.proofs.LogLemmas.{part_more, part_stays}
@@ -41,43 +41,43 @@ returns-clause-pages g c =
     part_stays d pages_of old c.name_log.new.self c.sync_names.new.self (part_more d pages_of (InCommits NamesLog) old c.sync_fresh_log.new.self c.name_log.new.self (in_commits_pages NamesLog) (pages_two d FreshLog old c.start_log.new.self c.sync_fresh_log.new.self only c.start_log.ensures.does.0 c.sync_fresh_log.ensures.1) c.name_log.ensures.does.0) c.sync_names.ensures.1
 
 pub returns-in_err-start_log-clause-any_moment : goal.returns-in_err-start_log-clause-any_moment
-returns-in_err-start_log-clause-any_moment g c steady none unit is spelt =
+returns-in_err-start_log-clause-any_moment g c none unit is spelt =
     let d = g.D.DiskState in
     let old = c.args.disk.now in
     let only = g.met.D.Disk.only_now old in
     started_log d unit c.args.head.now c.args.room is spelt c.requires.some old only none c.start_log.new.self c.start_log.ensures.does.0
 
 pub returns-in_err-sync_fresh_log-clause-any_moment : goal.returns-in_err-sync_fresh_log-clause-any_moment
-returns-in_err-sync_fresh_log-clause-any_moment g c steady none unit is spelt =
+returns-in_err-sync_fresh_log-clause-any_moment g c none unit is spelt =
     let d = g.D.DiskState in
     let old = c.args.disk.now in
     let only = g.met.D.Disk.only_now old in
     kept_start d unit c.args.head.now c.args.room is spelt c.requires.some old only none c.start_log.new.self c.start_log.ensures.does.0 c.sync_fresh_log.new.self c.sync_fresh_log.ensures.1
 
 pub returns-in_err-name_log-clause-any_moment : goal.returns-in_err-name_log-clause-any_moment
-returns-in_err-name_log-clause-any_moment g c steady none unit is spelt =
+returns-in_err-name_log-clause-any_moment g c none unit is spelt =
     let d = g.D.DiskState in
     let old = c.args.disk.now in
     let only = g.met.D.Disk.only_now old in
-    name_start d unit c.args.head.now c.args.room is spelt c.requires.some old only none c.start_log.new.self c.start_log.ensures.does.0 c.sync_fresh_log.new.self c.sync_fresh_log.ensures.1 (c.in_ok-start_log.ensures.made steady) c.in_ok-sync_fresh_log.ensures.0 c.name_log.new.self c.name_log.ensures.does.0
+    name_start d unit c.args.head.now c.args.room is spelt c.requires.some old only none c.start_log.new.self c.start_log.ensures.does.0 c.sync_fresh_log.new.self c.sync_fresh_log.ensures.1 c.in_ok-start_log.ensures.made c.in_ok-sync_fresh_log.ensures.0 c.name_log.new.self c.name_log.ensures.does.0
 
 pub returns-in_err-sync_names-clause-any_moment : goal.returns-in_err-sync_names-clause-any_moment
-returns-in_err-sync_names-clause-any_moment g c steady none unit is spelt =
+returns-in_err-sync_names-clause-any_moment g c none unit is spelt =
     let d = g.D.DiskState in
     let old = c.args.disk.now in
     let only = g.met.D.Disk.only_now old in
-    end_start d unit c.args.head.now c.args.room is spelt c.requires.some old only none c.start_log.new.self c.start_log.ensures.does.0 c.sync_fresh_log.new.self c.sync_fresh_log.ensures.1 (c.in_ok-start_log.ensures.made steady) c.in_ok-sync_fresh_log.ensures.0 c.name_log.new.self c.name_log.ensures.does.0 c.sync_names.new.self c.sync_names.ensures.1
+    end_start d unit c.args.head.now c.args.room is spelt c.requires.some old only none c.start_log.new.self c.start_log.ensures.does.0 c.sync_fresh_log.new.self c.sync_fresh_log.ensures.1 c.in_ok-start_log.ensures.made c.in_ok-sync_fresh_log.ensures.0 c.name_log.new.self c.name_log.ensures.does.0 c.sync_names.new.self c.sync_names.ensures.1
 
 pub returns-clause-any_moment : goal.returns-clause-any_moment
-returns-clause-any_moment g c steady none unit is spelt =
+returns-clause-any_moment g c none unit is spelt =
     let d = g.D.DiskState in
     let old = c.args.disk.now in
     let only = g.met.D.Disk.only_now old in
-    end_start d unit c.args.head.now c.args.room is spelt c.requires.some old only none c.start_log.new.self c.start_log.ensures.does.0 c.sync_fresh_log.new.self c.sync_fresh_log.ensures.1 (c.in_ok-start_log.ensures.made steady) c.in_ok-sync_fresh_log.ensures.0 c.name_log.new.self c.name_log.ensures.does.0 c.sync_names.new.self c.sync_names.ensures.1
+    end_start d unit c.args.head.now c.args.room is spelt c.requires.some old only none c.start_log.new.self c.start_log.ensures.does.0 c.sync_fresh_log.new.self c.sync_fresh_log.ensures.1 c.in_ok-start_log.ensures.made c.in_ok-sync_fresh_log.ensures.0 c.name_log.new.self c.name_log.ensures.does.0 c.sync_names.new.self c.sync_names.ensures.1
 
 pub returns-clause-ready : goal.returns-clause-ready
-returns-clause-ready g c steady none unit is spelt =
+returns-clause-ready g c none unit is spelt =
     let d = g.D.DiskState in
     let old = c.args.disk.now in
     let only = g.met.D.Disk.only_now old in
-    ready_start d unit c.args.head.now c.args.room is spelt c.requires.some old only none c.start_log.new.self c.start_log.ensures.does.0 c.sync_fresh_log.new.self c.sync_fresh_log.ensures.1 (c.in_ok-start_log.ensures.made steady) c.in_ok-sync_fresh_log.ensures.0 c.name_log.new.self c.name_log.ensures.does.0 c.sync_names.new.self c.sync_names.ensures.1 (c.in_ok-name_log.ensures.named (c.sync_fresh_log.ensures.1.steady ∙ c.start_log.ensures.does.0.steady ∙ steady)) c.in_ok-sync_names.ensures.0 (record { end = length c.args.head.now; long = length c.args.head.now + c.args.room }) refl refl
+    ready_start d unit c.args.head.now c.args.room is spelt c.requires.some old only none c.start_log.new.self c.start_log.ensures.does.0 c.sync_fresh_log.new.self c.sync_fresh_log.ensures.1 c.in_ok-start_log.ensures.made c.in_ok-sync_fresh_log.ensures.0 c.name_log.new.self c.name_log.ensures.does.0 c.sync_names.new.self c.sync_names.ensures.1 c.in_ok-name_log.ensures.named c.in_ok-sync_names.ensures.0 (record { end = length c.args.head.now; long = length c.args.head.now + c.args.room }) refl refl

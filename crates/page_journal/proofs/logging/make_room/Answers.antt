@@ -10,7 +10,7 @@ pub returns-then-room-place-clause-pages : goal.returns-then-room-place-clause-p
 returns-then-room-place-clause-pages g c = part_begin g.D.DiskState pages_of c.args.disk.now (g.met.D.Disk.only_now c.args.disk.now)
 
 pub returns-then-place-gt-MOST-clause-any_moment : goal.returns-then-place-gt-MOST-clause-any_moment
-returns-then-place-gt-MOST-clause-any_moment g c steady units ready = says_begin g.D.DiskState units c.args.place.now c.args.disk.now ready (g.met.D.Disk.only_now c.args.disk.now)
+returns-then-place-gt-MOST-clause-any_moment g c units ready = says_begin g.D.DiskState units c.args.place.now c.args.disk.now ready (g.met.D.Disk.only_now c.args.disk.now)
 
 pub returns-then-room-place-clause-any_moment : goal.returns-then-room-place-clause-any_moment
-returns-then-room-place-clause-any_moment g c steady units ready = says_begin g.D.DiskState units c.args.place.now c.args.disk.now ready (g.met.D.Disk.only_now c.args.disk.now)
+returns-then-room-place-clause-any_moment g c units ready = says_begin g.D.DiskState units c.args.place.now c.args.disk.now ready (g.met.D.Disk.only_now c.args.disk.now)

@@ -55,7 +55,7 @@ loop-n-preserved g c =
           let mid = c.loop-n.invariant.had st in
           let still = c.loop-n.invariant.steady ∙ st in
           elim c.if-marks-n.branch [
-            | then-marks-n+in_ok-read+in_ok-keep w ↦ subst (λ e. Gathers d main marks (i + 1) old e) (sym w.disk-is) (gathers_keep d main marks i w.read.new.to old w.read.new.self w.keep.new.self (gathers_read d main marks i old c.loop-n.disk w.read.new.self mid w.read.ensures.does.0) w.if-marks-n.true w.keep.ensures.does.0 (ap (λ (m : PageFile). slice_get m.pages i) (sym c.loop-n.invariant.same) ∙ w.in_ok-read.ensures.page still) (w.in_ok-keep.ensures.fresh (w.read.ensures.does.0.steady ∙ still)))
+            | then-marks-n+in_ok-read+in_ok-keep w ↦ subst (λ e. Gathers d main marks (i + 1) old e) (sym w.disk-is) (gathers_keep d main marks i w.read.new.to old w.read.new.self w.keep.new.self (gathers_read d main marks i old c.loop-n.disk w.read.new.self mid w.read.ensures.does.0) w.if-marks-n.true w.keep.ensures.does.0 (ap (λ (m : PageFile). slice_get m.pages i) (sym c.loop-n.invariant.same) ∙ w.in_ok-read.ensures.page still) w.in_ok-keep.ensures.fresh)
             | else-marks-n w ↦ subst (λ e. Gathers d main marks (i + 1) old e) (sym w.disk-is) (gathers_skip d main marks i old c.loop-n.disk mid w.if-marks-n.false)
           ];
     }

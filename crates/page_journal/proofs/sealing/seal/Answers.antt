@@ -22,7 +22,7 @@ module _ (g : given.Over) (c : After-name g) where
       let steady = c.start.ensures.does.0.steady ∙ before in
       let all = quiet_then d main old c.start.new.self c.gather.new.disk begun (c.gather.ensures.settled steady) (c.gather.ensures.any_moment steady) in
       let got = c.in_ok-gather.ensures.kept steady in
-      let fresh = c.in_ok-start.ensures.fresh before in
+      let fresh = c.in_ok-start.ensures.fresh in
       let gathered : Gathered main.pages (d.seen c.gather.new.disk).fresh = subst (λ (m : PageFile). Gathered m.pages (d.seen c.gather.new.disk).fresh) begun.settled.seen got.0 in
       let own = own_of main.pages c.args.marks.now (d.seen c.gather.new.disk).fresh c.in_ok-rest.rest c.requires.long gathered got.1 got.2 (got.3 ∙ ap (λ (f : SideFile). f.rest) fresh) (c.in_ok-rest.ensures.sum st) in
       ready d main old c.gather.new.disk c.sync_fresh.new.self (d.seen c.start.new.self).main all begun.settled.seen got.0 own c.sync_fresh.ensures.1 c.in_ok-sync_fresh.ensures.0
@@ -49,7 +49,7 @@ returns-clause-sealed g c = λ st.
     let kept = (d.seen c.sync_fresh.new.self).fresh in
     let same : kept ≡ (d.seen c.gather.new.disk).fresh = ap (λ (f : Files). f.fresh) c.sync_fresh.ensures.1.seen in (
       kept,
-      now_sealed d main c.args.disk.now c.sync_fresh.new.self c.name.new.self c.sync_names.new.self all c.name.ensures.does.0 (c.in_ok-name.ensures.named after) c.sync_names.ensures.1 (λ f left. ap (λ (b : Bool × Bool). b.0) (c.in_ok-sync_names.ensures.0 f left)),
+      now_sealed d main c.args.disk.now c.sync_fresh.new.self c.name.new.self c.sync_names.new.self all c.name.ensures.does.0 c.in_ok-name.ensures.named c.sync_names.ensures.1 (λ f left. ap (λ (b : Bool × Bool). b.0) (c.in_ok-sync_names.ensures.0 f left)),
       restored_itself main kept c.requires.no_tail all.gathered.long all.gathered.pages_there,
       all.gathered.long,
       subst (λ (k : SideFile). KeepsMarked c.args.marks.now k) (sym same) (c.in_ok-gather.ensures.kept before).1,

@@ -1,11 +1,13 @@
-use Rattle.std.proofs.Common.{rules}
+use Rattle.std.proofs.Common.{◌≡◌, refl, option_map}
+use Rattle.page_journal.specs.Files.{Files}
+use Rattle.page_journal.specs.Steps.{InCommits, ChangesLog, zeroed}
+use Rattle.page_journal.specs.FileEvents.{LengthenLog}
 use Rattle.commit_paper.specs.Steps.{Lengthens}
-use Rattle.page_journal.specs.Steps.{InCommits, ChangesLog}
-use Rattle.page_journal.proofs.FileDiskLemmas.{not_steady, does_none_seen, changes_none}
+use Rattle.page_journal.proofs.FileDiskLemmas.{append_does, append_seen, lengthens_log}
 use Rattle.page_journal.proofs.file_disk.FileDiskDisk.lengthen_log.Goals as goal
 
 pub returns-clause-does : goal.returns-clause-does
-returns-clause-does g c = (does_none_seen (InCommits (ChangesLog (Lengthens c.args.at))) _ _ (changes_none (Lengthens c.args.at)) c.self.view_is _ _ c.count_up.ensures, search rules, search rules)
+returns-clause-does g c = append_does _ (InCommits (ChangesLog (Lengthens c.args.at))) (LengthenLog c.args.at c.args.n) c.appended.result _ c.args.self.now c.appended.new.self (lengthens_log c.args.at c.args.n) c.appended.ensures.notes c.appended.ensures.fault c.self.view_is
 
 pub returns-clause-zeros : goal.returns-clause-zeros
-returns-clause-zeros g c = λ steady. not_steady steady
+returns-clause-zeros g c = append_seen (LengthenLog c.args.at c.args.n) (λ (f h : Files). h.commits.log ≡ option_map (zeroed c.args.at c.args.n) f.commits.log) c.appended.result _ c.args.self.now c.appended.new.self c.appended.ensures.notes c.self.view_is (λ f. refl)

@@ -1,11 +1,7 @@
-use Rattle.std.proofs.Common.{rules, ◌≡◌}
 use Rattle.page_journal.specs.Files.{Files}
-use Rattle.page_journal.specs.Steps.{Nothing}
-use Rattle.page_journal.specs.FileDisks.{files_seen}
-use Rattle.page_journal.proofs.FileDiskLemmas.{durable, has_moment, does_none, nothing_none}
+use Rattle.page_journal.specs.FileEvents.{SyncFreshLog}
+use Rattle.page_journal.proofs.FileDiskLemmas.{call_syncs, syncs_fresh_log}
 use Rattle.page_journal.proofs.file_disk.FileDiskDisk.sync_fresh_log.Goals as goal
 
 pub returns : goal.returns
-returns g c =
-    let seen = files_seen c.args.self.now.calls c.args.self.now.pages c.args.self.now.tail in
-    (durable c.noted_call.result c.count_up.new.n (λ (f : Files). f.commits.fresh ≡ seen.commits.fresh), does_none Nothing _ _ nothing_none c.self.view_is _ _ c.count_up.ensures, search rules, has_moment c.noted_call.result _ _ c.self.view_is _ c.count_up.ensures)
+returns g c = call_syncs _ (λ (f : Files). f.commits.fresh) SyncFreshLog c.made.result _ c.args.self.now c.made.new.self syncs_fresh_log (λ seen d kept. kept) c.made.ensures.notes c.made.ensures.fault c.self.view_is

@@ -4,21 +4,21 @@ use Rattle.page_journal.specs.KeptStores.{KeptStored, old_file_of}
 use Rattle.page_journal.proofs.RefusalLemmas.{passed_on}
 use Rattle.page_journal.proofs.KeptStoreLemmas.{guarded_stays, same_guard}
 use Rattle.page_journal.proofs.LogLemmas.{logs_begin, logs_stays}
-use Rattle.page_journal.proofs.LoggedLemmas.{logged_leaves, opening_of, opening_same}
+use Rattle.page_journal.proofs.LoggedLemmas.{alone_same, logged_leaves, opening_of, opening_same}
 use Rattle.page_journal.proofs.kept_store.KeptStoreStore.shape.Goals as goal
 
 pub invariant_of-self : goal.invariant_of-self
-invariant_of-self g c = (
-  c.self.invariant.0,
-  λ st.
-      let d = g.D.DiskState in
-      let i = c.self.invariant.1 (sym c.shape.ensures.does.0.steady ∙ st) in (
-        same_guard d c.self.inside.state c.self.inside.kept.items c.self.inside.disk c.shape.new.self c.shape.new.self c.shape.ensures.does.0.began
-            (guarded_stays d (old_file_of d c.self.inside.disk) (g.met.D.Disk.counts_now) c.self.inside.state c.self.inside.kept.items c.self.inside.disk c.shape.new.self i.0 c.shape.ensures.does.0),
-        logged_leaves d (g.met.D.Disk.counts_now) c.self.inside.log c.self.inside.doubt.items c.self.inside.disk c.shape.new.self (logs_stays d c.self.inside.disk c.self.inside.disk c.shape.new.self (logs_begin d c.self.inside.disk (g.met.D.Disk.only_now c.self.inside.disk)) c.shape.ensures.does.0) c.shape.ensures.does.0.began i.1,
-        i.2,
-      ),
-)
+invariant_of-self g c =
+    let d = g.D.DiskState in (
+      c.self.invariant.0,
+      logged_leaves d (g.met.D.Disk.counts_now) c.self.inside.log c.self.inside.doubt.items c.self.inside.disk c.shape.new.self (logs_stays d c.self.inside.disk c.self.inside.disk c.shape.new.self (logs_begin d c.self.inside.disk (g.met.D.Disk.only_now c.self.inside.disk)) c.shape.ensures.does.0) c.shape.ensures.does.0.began c.self.invariant.1,
+      c.self.invariant.2,
+      λ st.
+          let i = c.self.invariant.3 (sym c.shape.ensures.does.0.steady ∙ st) in (
+            same_guard d c.self.inside.state c.self.inside.kept.items c.self.inside.disk c.shape.new.self c.shape.new.self c.shape.ensures.does.0.began (guarded_stays d (old_file_of d c.self.inside.disk) (g.met.D.Disk.counts_now) c.self.inside.state c.self.inside.kept.items c.self.inside.disk c.shape.new.self i.0 c.shape.ensures.does.0),
+            alone_same d c.self.inside.log c.self.inside.disk c.shape.new.self c.shape.ensures.does.0.began i.1,
+          ),
+    )
 
 pub returns-clause-leaves : goal.returns-clause-leaves
 returns-clause-leaves g c = record {

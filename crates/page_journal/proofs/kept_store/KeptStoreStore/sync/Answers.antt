@@ -4,21 +4,21 @@ use Rattle.page_journal.specs.KeptStores.{KeptStored, old_file_of}
 use Rattle.page_journal.proofs.RefusalLemmas.{passed_on}
 use Rattle.page_journal.proofs.KeptStoreLemmas.{guarded_stays, same_guard}
 use Rattle.page_journal.proofs.LogLemmas.{logs_begin, logs_stays}
-use Rattle.page_journal.proofs.LoggedLemmas.{logged_leaves, opening_of, opening_same}
+use Rattle.page_journal.proofs.LoggedLemmas.{alone_same, logged_leaves, opening_of, opening_same}
 use Rattle.page_journal.proofs.kept_store.KeptStoreStore.sync.Goals as goal
 
 pub invariant_of-self-2 : goal.invariant_of-self-2
-invariant_of-self-2 g c = (
-  c.self.invariant.0,
-  λ st.
-      let d = g.D.DiskState in
-      let i = c.self.invariant.1 (sym c.sync.ensures.1.steady ∙ st) in (
-        same_guard d c.self.inside.state c.self.inside.kept.items c.self.inside.disk c.sync.new.self c.sync.new.self c.sync.ensures.1.began
-            (guarded_stays d (old_file_of d c.self.inside.disk) (g.met.D.Disk.counts_now) c.self.inside.state c.self.inside.kept.items c.self.inside.disk c.sync.new.self i.0 c.sync.ensures.1),
-        logged_leaves d (g.met.D.Disk.counts_now) c.self.inside.log c.self.inside.doubt.items c.self.inside.disk c.sync.new.self (logs_stays d c.self.inside.disk c.self.inside.disk c.sync.new.self (logs_begin d c.self.inside.disk (g.met.D.Disk.only_now c.self.inside.disk)) c.sync.ensures.1) c.sync.ensures.1.began i.1,
-        i.2,
-      ),
-)
+invariant_of-self-2 g c =
+    let d = g.D.DiskState in (
+      c.self.invariant.0,
+      logged_leaves d (g.met.D.Disk.counts_now) c.self.inside.log c.self.inside.doubt.items c.self.inside.disk c.sync.new.self (logs_stays d c.self.inside.disk c.self.inside.disk c.sync.new.self (logs_begin d c.self.inside.disk (g.met.D.Disk.only_now c.self.inside.disk)) c.sync.ensures.1) c.sync.ensures.1.began c.self.invariant.1,
+      c.self.invariant.2,
+      λ st.
+          let i = c.self.invariant.3 (sym c.sync.ensures.1.steady ∙ st) in (
+            same_guard d c.self.inside.state c.self.inside.kept.items c.self.inside.disk c.sync.new.self c.sync.new.self c.sync.ensures.1.began (guarded_stays d (old_file_of d c.self.inside.disk) (g.met.D.Disk.counts_now) c.self.inside.state c.self.inside.kept.items c.self.inside.disk c.sync.new.self i.0 c.sync.ensures.1),
+            alone_same d c.self.inside.log c.self.inside.disk c.sync.new.self c.sync.ensures.1.began i.1,
+          ),
+    )
 
 pub returns-clause-changes : goal.returns-clause-changes
 returns-clause-changes g c = record {

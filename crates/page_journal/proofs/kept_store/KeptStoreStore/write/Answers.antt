@@ -6,7 +6,7 @@ use Rattle.page_store.specs.Guards.{may_write}
 use Rattle.std.proofs.lemmas.Bool.{false≢true}
 use Rattle.page_journal.proofs.KeptStoreLemmas.{guarded_write, same_guard}
 use Rattle.page_journal.proofs.LogLemmas.{logs_begin, logs_write}
-use Rattle.page_journal.proofs.LoggedLemmas.{logged_leaves, opening_of, opening_same}
+use Rattle.page_journal.proofs.LoggedLemmas.{alone_same, logged_leaves, opening_of, opening_same}
 use Rattle.page_journal.proofs.kept_store.KeptStoreStore.write.Goals as goal
 
 pub returns-then-not-may_write-clause-other_pages :
@@ -16,17 +16,17 @@ returns-then-not-may_write-clause-other_pages g c =
     (get_or pages c.args.n [], ap (λ (s : KeptStored _). (g.D.DiskState.seen s.disk).main.pages) c.self.view_is ∙ sym (set-get_or pages c.args.n []))
 
 pub invariant_of-self-2 : goal.invariant_of-self-2
-invariant_of-self-2 g c = (
-  c.self.invariant.0,
-  λ st.
-      let d = g.D.DiskState in
-      let i = c.self.invariant.1 (sym c.write.ensures.does.0.steady ∙ st) in (
-        same_guard d c.self.inside.state c.self.inside.kept.items c.self.inside.disk c.write.new.self c.write.new.self c.write.ensures.does.0.began
-            (guarded_write d (old_file_of d c.self.inside.disk) c.self.inside.state c.self.inside.kept.items c.args.n c.self.inside.disk c.write.new.self i.0 (sym c.may_write.ensures ∙ c.if-not-may_write.false) c.write.ensures.does.0),
-        logged_leaves d (g.met.D.Disk.counts_now) c.self.inside.log c.self.inside.doubt.items c.self.inside.disk c.write.new.self (logs_write d c.args.n c.self.inside.disk c.self.inside.disk c.write.new.self (logs_begin d c.self.inside.disk (g.met.D.Disk.only_now c.self.inside.disk)) c.write.ensures.does.0) c.write.ensures.does.0.began i.1,
-        i.2,
-      ),
-)
+invariant_of-self-2 g c =
+    let d = g.D.DiskState in (
+      c.self.invariant.0,
+      logged_leaves d (g.met.D.Disk.counts_now) c.self.inside.log c.self.inside.doubt.items c.self.inside.disk c.write.new.self (logs_write d c.args.n c.self.inside.disk c.self.inside.disk c.write.new.self (logs_begin d c.self.inside.disk (g.met.D.Disk.only_now c.self.inside.disk)) c.write.ensures.does.0) c.write.ensures.does.0.began c.self.invariant.1,
+      c.self.invariant.2,
+      λ st.
+          let i = c.self.invariant.3 (sym c.write.ensures.does.0.steady ∙ st) in (
+            same_guard d c.self.inside.state c.self.inside.kept.items c.self.inside.disk c.write.new.self c.write.new.self c.write.ensures.does.0.began (guarded_write d (old_file_of d c.self.inside.disk) c.self.inside.state c.self.inside.kept.items c.args.n c.self.inside.disk c.write.new.self i.0 (sym c.may_write.ensures ∙ c.if-not-may_write.false) c.write.ensures.does.0),
+            alone_same d c.self.inside.log c.self.inside.disk c.write.new.self c.write.ensures.does.0.began i.1,
+          ),
+    )
 
 pub returns-clause-changes : goal.returns-clause-changes
 returns-clause-changes g c = record {

@@ -1,4 +1,4 @@
-use Rattle.std.proofs.Common.{refl, rules}
+use Rattle.std.proofs.Common.{rules}
 use Rattle.commit_paper.specs.Steps.{Lengthens}
 use Rattle.page_journal.specs.Steps.{ChangesLog}
 use Rattle.page_journal.specs.declared.commit_call.CommitCall.TheVariants.{Lengthen}
