@@ -71,6 +71,7 @@ begins (reply.Resume answer) = told _ _ (λ x. refl) answer
 begins (reply.Abort answer) = told _ _ (λ x. refl) answer
 begins (reply.Commit answer) = told _ _ (λ x. refl) answer
 begins (reply.List answer) = told _ _ listed answer
+begins (reply.Committed answer) = told _ _ old answer
 begins (reply.Keys answer) = told _ _ keyed answer
 begins (reply.Log len used) = refl
 begins (reply.Unkept fault) = unkept fault

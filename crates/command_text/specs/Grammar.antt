@@ -88,7 +88,7 @@ abbrev pub three_of : List (List ℕ) → Read (List ℕ × List ℕ × List ℕ
 three_of (a ∷ b ∷ c ∷ []) = Ok (a, b, c)
 three_of words = Err WordCount
 
--- the arguments of a command: none, a transaction, or one and a number, a key, or a key and a record
+-- the arguments of a command: none, a transaction, or one and a number, a key, or a key and a record; a key, or one and a number
 abbrev pub alone : List (List ℕ) → Command → Read Command
 alone [] c = Ok c
 alone (word ∷ words) c = Err WordCount
@@ -107,17 +107,26 @@ tx_key_record_of words =
     three_of words >>= λ w. tx_from_word w.0 >>= λ t. key_from_word w.1 >>= λ k. record_from_word w.2 >>= λ r.
     Ok (t, k, r)
 
+abbrev pub key_of_word : List (List ℕ) → Read (List ℕ)
+key_of_word words = one_of words >>= key_from_word
+
+abbrev pub key_number_of : List (List ℕ) → Read (List ℕ × ℕ)
+key_number_of words = two_of words >>= λ w. key_from_word w.0 >>= λ k. number_at w.1 >>= λ n. Ok (k, n)
+
 -- whether the bytes are the text
 abbrev pub is_text : List ℕ → List ℕ → Bool
 is_text a b = pointwise ◌==◌ a b
 
--- A command on the whole file, on a transaction, or on a key, by its name and the words after it.
+-- A command on the file beside its transactions, on a transaction, or on a key of one, by its name and the words after it.
 unfoldable pub file_command_of : List ℕ → List (List ℕ) → Read Command
 file_command_of name words =
     if is_text name (codes "list") then alone words command.List
+    else (if is_text name (codes "from") then read_as (λ a. command.From a.0 a.1) (key_number_of words)
+    else (if is_text name (codes "upto") then read_as (λ a. command.Upto a.0 a.1) (key_number_of words)
+    else (if is_text name (codes "committed") then read_as command.Committed (key_of_word words)
     else (if is_text name (codes "keys") then read_as command.Keys (tx_of_word words)
     else (if is_text name (codes "log") then alone words command.Log
-    else Err UnknownCommand))
+    else Err UnknownCommand)))))
 
 unfoldable pub tx_command_of : List ℕ → List (List ℕ) → Read Command
 tx_command_of name words =

@@ -18,6 +18,7 @@ is_refusal (reply.Resume answer) = is_err answer
 is_refusal (reply.Abort answer) = is_err answer
 is_refusal (reply.Commit answer) = is_err answer
 is_refusal (reply.List answer) = is_err answer
+is_refusal (reply.Committed answer) = is_err answer
 is_refusal (reply.Keys answer) = is_err answer
 is_refusal (reply.Log len used) = false
 is_refusal (reply.Unkept fault) = true

@@ -15,7 +15,7 @@ use Rattle.command_text.specs.declared.reply.Reply.{Reply}
 use Rattle.command_text.specs.declared.reply.Unkept.{Unkept}
 use Rattle.command_text.specs.declared.reply.Unkept.TheVariants as unkept
 use Rattle.command_text.specs.declared.reply.Reply.TheVariants as reply
-use Rattle.record_file.specs.Refusals.{begin_refusal, put_refusal, claim_refusal, remove_refusal, get_refusal, savepoint_refusal, release_refusal, rollback_refusal, abort_refusal, resume_refusal, commit_refusal, entries_refusal, keys_of_refusal}
+use Rattle.record_file.specs.Refusals.{begin_refusal, put_refusal, claim_refusal, remove_refusal, get_refusal, savepoint_refusal, release_refusal, rollback_refusal, abort_refusal, resume_refusal, commit_refusal, committed_refusal, entries_refusal, keys_of_refusal}
 
 -- the bytes 0 to 32, `%`, and those from 127 on are written as `%` and two upper case hexadecimal digits
 abbrev pub is_escaped : ℕ → Bool
@@ -122,6 +122,7 @@ reply_text (reply.Resume answer) = answer_text number_text resume_refusal answer
 reply_text (reply.Abort answer) = answer_text number_text abort_refusal answer
 reply_text (reply.Commit answer) = answer_text done_text commit_refusal answer
 reply_text (reply.List answer) = answer_text entries_text entries_refusal answer
+reply_text (reply.Committed answer) = answer_text old_text committed_refusal answer
 reply_text (reply.Keys answer) = answer_text keys_text keys_of_refusal answer
 reply_text (reply.Log len used) = number_text len ++ codes " " ++ decimal used
 reply_text (reply.Unkept fault) = unkept_text fault

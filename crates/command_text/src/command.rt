@@ -16,6 +16,9 @@ pub enum Command {
     Abort(TxId),
     Commit(TxId),
     List,
+    From(Key, u32),
+    Upto(Key, u32),
+    Committed(Key),
     Keys(TxId),
     Log,
 }

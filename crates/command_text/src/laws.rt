@@ -61,6 +61,11 @@ pub fn commands_by_example()
     ensures number_first { line_of (codes "put x abcdefghijklmnopq b") ≡ Err faults.BadNumber }
     ensures key_first { line_of (codes "put 1 abcdefghijklmnopq b") ≡ Err faults.KeyTooLong }
     ensures mark { line_of (codes "put 1 a b=") ≡ Err faults.NoRecordMark }
+    ensures from { line_of (codes "from %00 10") ≡ Ok (Some (command.From (0 ∷ []) 10)) }
+    ensures upto { line_of (codes "upto ab 0") ≡ Ok (Some (command.Upto (codes "ab") 0)) }
+    ensures key_before_number { line_of (codes "from abcdefghijklmnopq x") ≡ Err faults.KeyTooLong }
+    ensures committed { line_of (codes "committed a") ≡ Ok (Some (command.Committed (codes "a"))) }
+    ensures committed_by_none { line_of (codes "committed 1 a") ≡ Err faults.WordCount }
 {}
 
 /// A word of a line has a byte, and so its key has one: it is too long, or a key.

@@ -1,5 +1,5 @@
 ghost use Rattle.std.specs.Prelude.{◌≡◌, Some, codes, if◌then◌else◌};
-ghost use Rattle.command_text.specs.Grammar.{words_of, tx_of_word, tx_number_of, tx_key_of, tx_key_record_of, file_command_of, tx_command_of, line_of, is_text, read_as};
+ghost use Rattle.command_text.specs.Grammar.{words_of, tx_of_word, tx_number_of, tx_key_of, tx_key_record_of, key_of_word, key_number_of, file_command_of, tx_command_of, line_of, is_text, read_as};
 ghost use Rattle.command_text.specs.Words.{record_from};
 ghost use Rattle.percent_encoding.specs.Percent.{percent_decode};
 ghost use Rattle.command_text.specs.Script.{bounded_line_of};
@@ -150,7 +150,49 @@ fn back(rest: &[u8]) -> Result<Option<Command>, LineFault>
     Ok(Some(Command::Back(tx, n)))
 }
 
-// A command on the whole file, by its name and the words after it. Fault: UnknownCommand, then those of the arguments.
+// The arguments of a command on the file beside its transactions: a key, or one and a number. Faults: WordCount, and then those
+// of the arguments from left to right.
+fn key(text: &[u8]) -> Result<Key, LineFault>
+    ensures { result ≡ key_of_word (words_of text.now) }
+{
+    key_at(one_word(text)?)
+}
+
+fn key_number(text: &[u8]) -> Result<(Key, u32), LineFault>
+    ensures { result ≡ key_number_of (words_of text.now) }
+{
+    let (first, second) = two_words(text)?;
+    let key = key_at(first)?;
+    Ok((key, number_at(second)?))
+}
+
+#[inline(never)]
+fn from(rest: &[u8]) -> Result<Option<Command>, LineFault>
+    ensures { result
+        ≡ read_as Some (read_as (λ a. commands.From a.0 a.1) (key_number_of (words_of rest.now))) }
+{
+    let (key, n) = key_number(rest)?;
+    Ok(Some(Command::From(key, n)))
+}
+
+#[inline(never)]
+fn upto(rest: &[u8]) -> Result<Option<Command>, LineFault>
+    ensures { result
+        ≡ read_as Some (read_as (λ a. commands.Upto a.0 a.1) (key_number_of (words_of rest.now))) }
+{
+    let (key, n) = key_number(rest)?;
+    Ok(Some(Command::Upto(key, n)))
+}
+
+#[inline(never)]
+fn committed(rest: &[u8]) -> Result<Option<Command>, LineFault>
+    ensures { result
+        ≡ read_as Some (read_as commands.Committed (key_of_word (words_of rest.now))) }
+{
+    Ok(Some(Command::Committed(key(rest)?)))
+}
+
+// A command on the file beside its transactions, by its name and the words after it. Fault: UnknownCommand, then those of the arguments.
 #[inline(never)]
 #[tactic(auto, unfolding(crate::specs::Grammar::file_command_of))]
 fn file_command(name: &[u8], rest: &[u8]) -> Result<Option<Command>, LineFault>
@@ -158,6 +200,15 @@ fn file_command(name: &[u8], rest: &[u8]) -> Result<Option<Command>, LineFault>
 {
     if name == b"list".as_slice() {
         return alone(rest, Command::List);
+    }
+    if name == b"from".as_slice() {
+        return from(rest);
+    }
+    if name == b"upto".as_slice() {
+        return upto(rest);
+    }
+    if name == b"committed".as_slice() {
+        return committed(rest);
     }
     if name == b"keys".as_slice() {
         return keys(rest);
@@ -168,7 +219,7 @@ fn file_command(name: &[u8], rest: &[u8]) -> Result<Option<Command>, LineFault>
     Err(LineFault::UnknownCommand)
 }
 
-// A command on a transaction, or one on the whole file.
+// A command on a transaction, or one on the file beside its transactions.
 #[inline(never)]
 #[tactic(auto, unfolding(crate::specs::Grammar::tx_command_of))]
 fn tx_command(name: &[u8], rest: &[u8]) -> Result<Option<Command>, LineFault>

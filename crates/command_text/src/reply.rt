@@ -8,9 +8,9 @@ use crate::{EntryList, KeyList, LineFault};
 use percent_encoding::{AsciiSet, CONTROLS, ascii_set, ascii_str, percent_encode};
 use rec_types::{Entry, Key, Memory, Record, TxId};
 use record_file::{
-    AbortFault, BeginFault, Cause, ClaimFault, CommitFault, EntriesFault, GetFault, KeysOfFault,
-    PutFault, Refusal, ReleaseFault, RemoveFault, ResumeFault, RollbackToFault, SavepointFault,
-    ToRefusal,
+    AbortFault, BeginFault, Cause, ClaimFault, CommitFault, CommittedFault, EntriesFault, GetFault,
+    KeysOfFault, PutFault, Refusal, ReleaseFault, RemoveFault, ResumeFault, RollbackToFault,
+    SavepointFault, ToRefusal,
 };
 use std::alloc::{AllocError, Global};
 
@@ -41,6 +41,7 @@ pub enum Reply {
     Abort(Result<u32, AbortFault>),
     Commit(Result<(), CommitFault>),
     List(Result<EntryList, EntriesFault>),
+    Committed(Result<Option<Record>, CommittedFault>),
     Keys(Result<KeyList, KeysOfFault>),
     Log(u32, u32),
     Unkept(Unkept),
@@ -65,6 +66,7 @@ impl Reply {
             Reply::Abort(answer) => answer.is_err(),
             Reply::Commit(answer) => answer.is_err(),
             Reply::List(answer) => answer.is_err(),
+            Reply::Committed(answer) => answer.is_err(),
             Reply::Keys(answer) => answer.is_err(),
             Reply::Log(..) => false,
             Reply::Unkept(_) | Reply::Bad(_) => true,
@@ -305,6 +307,8 @@ fn push_reply(text: &mut String, reply: &Reply) -> Result<(), AllocError>
         Reply::Commit(Err(fault)) => push_fault_of(text, fault),
         Reply::List(Ok(entries)) => push_entries(text, entries),
         Reply::List(Err(fault)) => push_fault_of(text, fault),
+        Reply::Committed(Ok(value)) => push_old(text, value),
+        Reply::Committed(Err(fault)) => push_fault_of(text, fault),
         Reply::Keys(Ok(keys)) => push_keys(text, keys),
         Reply::Keys(Err(fault)) => push_fault_of(text, fault),
         Reply::Log(len, used) => write!(text, "ok {len} {used}"),

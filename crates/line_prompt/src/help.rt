@@ -2,7 +2,7 @@ use std::io;
 use std::io::Write;
 
 // The forms of the lines, and what they do.
-const FORMS: [(&str, &str, &str); 16] = [
+const FORMS: [(&str, &str, &str); 19] = [
     (
         "begin",
         "begin",
@@ -46,6 +46,21 @@ const FORMS: [(&str, &str, &str); 16] = [
         "list",
         "list",
         "answers each record, with the transaction that owns its key",
+    ),
+    (
+        "from",
+        "from KEY N",
+        "answers the first N records at KEY or above, in key order",
+    ),
+    (
+        "upto",
+        "upto KEY N",
+        "answers the last N records at KEY or below, the greatest key first",
+    ),
+    (
+        "committed",
+        "committed KEY",
+        "answers the record at a key, without the changes of open transactions",
     ),
     ("keys", "keys T", "answers the keys that T owns"),
     (

@@ -23,7 +23,7 @@ one_ran t logged old new called made was is = (undoubted (seen_as logged t new),
 
 -- so a command that makes one call has its reply
 pub told_by : {T E : Type 0} (t : Ghosts T) (old new : OpenFile T) (called : Called) (made : Made t old called new) (entry : Read Command) (reply : Reply) (answer : Result Bool E) (text : List ℕ)
-    → ((logged : Bool) → ScriptTellsOf logged entry reply (called ∷ [])) → ((logged : Bool) → TellsKept (seen_as logged t old) entry reply (seen_as logged t new)) → ((logged : Bool) → doubt_of logged t new.table ≡ doubt_of logged t old.table → TellsDoubt (seen_as logged t old) entry reply (seen_as logged t new)) → is_commit called ≡ false
+    → ((logged : Bool) → ScriptTellsOf (seen_as logged t old) entry reply (called ∷ [])) → ((logged : Bool) → TellsKept (seen_as logged t old) entry reply (seen_as logged t new)) → ((logged : Bool) → doubt_of logged t new.table ≡ doubt_of logged t old.table → TellsDoubt (seen_as logged t old) entry reply (seen_as logged t new)) → is_commit called ≡ false
     → ToldReply reply answer text → CommandTold t (SameOrigin t) old entry answer text new
 told_by t old new called made entry reply answer text says kept doubt no_commit told = record {
   told = λ logged was is. (

@@ -18,7 +18,8 @@ use Rattle.record_file.specs.declared.keeper.KeeperFault.{KeeperFault}
 use Rattle.record_file.specs.declared.keeper.KeeperFault.TheVariants as keeper_faults
 use Rattle.record_file.proofs.CallStepLemmas.{names_none}
 use Rattle.record_file.proofs.LogGrowthLemmas.{tells_none}
-use Rattle.recfile.specs.Run.{AddsIf, AddsWrites, HasReply, SaysWrites, TellsWrites, commit_reply}
+use Rattle.recfile.specs.Run.{AddsIf, HasReply, TellsWrites, commit_reply}
+use Rattle.file_session.specs.LogKeeping.{AddsWrites, SaysWrites}
 
 abbrev Writes : Type 0
 Writes = List (List ℕ × Option (List ℕ))
@@ -116,7 +117,7 @@ module _ {T : Type 0} (t : Ghosts T) (old new : OpenFile T) (same : SameTable t 
       alone = λ _. refl;
       ran = one_step keeps tx (Err fault) was is step (λ _. ap (commits_of keeps t) asked);
     }
-    commit_told (Err keep_faults.Memory) step asked was is = record { events = []; told = (step.0, refl); kept = tt; doubt = ap (doubt_of keeps t) asked; alone = λ _. refl; ran = no_step keeps step.2 (ap (commits_of keeps t) asked) }
-    commit_told (Err (keep_faults.Unkept keeper_faults.Memory)) step asked was is = record { events = []; told = (step.0, refl); kept = tt; doubt = undoubted_same keeps (tells (Err keeper_faults.Memory) asked step.0).1; alone = λ _. refl; ran = no_step keeps step.2 (unkept_same keeps (tells (Err keeper_faults.Memory) asked step.0).0) }
-    commit_told (Err (keep_faults.Unkept keeper_faults.Room)) step asked was is = record { events = []; told = (step.0, refl); kept = tt; doubt = undoubted_same keeps (tells (Err keeper_faults.Room) asked step.0).1; alone = λ _. refl; ran = no_step keeps step.2 (unkept_same keeps (tells (Err keeper_faults.Room) asked step.0).0) }
-    commit_told (Err (keep_faults.Unkept keeper_faults.Doubt)) step asked was is = record { events = []; told = (step.0, refl); kept = tt; doubt = doubted keeps tx (writes (own tx.0 old.file.history)) step.1 (tells (Err keeper_faults.Doubt) asked step.0).1; alone = λ _. refl; ran = no_step keeps step.2 (unkept_same keeps (tells (Err keeper_faults.Doubt) asked step.0).0) }
+    commit_told (Err keep_faults.Memory) step asked was is = record { events = []; told = (step.0, refl, step.1); kept = tt; doubt = ap (doubt_of keeps t) asked; alone = λ _. refl; ran = no_step keeps step.2 (ap (commits_of keeps t) asked) }
+    commit_told (Err (keep_faults.Unkept keeper_faults.Memory)) step asked was is = record { events = []; told = (step.0, refl, step.1); kept = tt; doubt = undoubted_same keeps (tells (Err keeper_faults.Memory) asked step.0).1; alone = λ _. refl; ran = no_step keeps step.2 (unkept_same keeps (tells (Err keeper_faults.Memory) asked step.0).0) }
+    commit_told (Err (keep_faults.Unkept keeper_faults.Room)) step asked was is = record { events = []; told = (step.0, refl, step.1); kept = tt; doubt = undoubted_same keeps (tells (Err keeper_faults.Room) asked step.0).1; alone = λ _. refl; ran = no_step keeps step.2 (unkept_same keeps (tells (Err keeper_faults.Room) asked step.0).0) }
+    commit_told (Err (keep_faults.Unkept keeper_faults.Doubt)) step asked was is = record { events = []; told = (step.0, refl, step.1); kept = tt; doubt = doubted keeps tx (writes (own tx.0 old.file.history)) step.1 (tells (Err keeper_faults.Doubt) asked step.0).1; alone = λ _. refl; ran = no_step keeps step.2 (unkept_same keeps (tells (Err keeper_faults.Doubt) asked step.0).0) }

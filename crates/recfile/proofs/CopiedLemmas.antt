@@ -6,7 +6,7 @@ use Rattle.page_copy.specs.Copying.{IsCopyFault, IsUncopied}
 use Rattle.page_copy.specs.declared.copying.CopyFault.{CopyFault}
 use Rattle.page_copy.specs.declared.copying.CopyFault.TheVariants.{Source, Length, Copy}
 use Rattle.btree_delete.specs.CleanFile.{HasLength}
-use Rattle.recfile.specs.Dumped.{CanBeOpened}
+use Rattle.file_session.specs.Opened.{CanBeOpened}
 use Rattle.recfile.specs.FileFaults.{fault_of_copying}
 use Rattle.recfile.specs.FilesAt.{IsCopyOf, IsCopyingFault, IsOfCopy, IsOfCopying}
 use Rattle.recfile.specs.declared.copying.CopyingFault.{CopyingFault}

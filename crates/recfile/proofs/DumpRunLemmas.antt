@@ -89,60 +89,63 @@ one_step old new (e ∷ []) called is ran = (e, cc, subst (λ (s : Seen). Step o
 one_step old new (e ∷ f ∷ es) called is ran = absurd (cc)
 
 -- which call an accepted reply tells of
-told_begin : (logged : Bool) → (answer : Reply) (calls : List Called) → ScriptTellsOf logged (Ok command.Begin) answer calls → is_refusal answer ≡ false → (told : Result TxId BeginFault) × (calls ≡ Begin told ∷ [])
-told_begin logged (reply.Begin answer) calls told accepted = (answer, told)
-told_begin logged (reply.Put answer) calls told accepted = absurd told
-told_begin logged (reply.Claim answer) calls told accepted = absurd told
-told_begin logged (reply.Del answer) calls told accepted = absurd told
-told_begin logged (reply.Get answer) calls told accepted = absurd told
-told_begin logged (reply.Save answer) calls told accepted = absurd told
-told_begin logged (reply.Release answer) calls told accepted = absurd told
-told_begin logged (reply.Back answer) calls told accepted = absurd told
-told_begin logged (reply.Resume answer) calls told accepted = absurd told
-told_begin logged (reply.Abort answer) calls told accepted = absurd told
-told_begin logged (reply.Commit answer) calls told accepted = absurd told
-told_begin logged (reply.List answer) calls told accepted = absurd told
-told_begin logged (reply.Keys answer) calls told accepted = absurd told
-told_begin logged (reply.Log len used) calls told accepted = absurd told
-told_begin logged (reply.Unkept fault) calls told accepted = absurd told
-told_begin logged (reply.Bad fault) calls told accepted = absurd told
+told_begin : (old : Seen) → (answer : Reply) (calls : List Called) → ScriptTellsOf old (Ok command.Begin) answer calls → is_refusal answer ≡ false → (told : Result TxId BeginFault) × (calls ≡ Begin told ∷ [])
+told_begin old (reply.Begin answer) calls told accepted = (answer, told)
+told_begin old (reply.Put answer) calls told accepted = absurd told
+told_begin old (reply.Claim answer) calls told accepted = absurd told
+told_begin old (reply.Del answer) calls told accepted = absurd told
+told_begin old (reply.Get answer) calls told accepted = absurd told
+told_begin old (reply.Save answer) calls told accepted = absurd told
+told_begin old (reply.Release answer) calls told accepted = absurd told
+told_begin old (reply.Back answer) calls told accepted = absurd told
+told_begin old (reply.Resume answer) calls told accepted = absurd told
+told_begin old (reply.Abort answer) calls told accepted = absurd told
+told_begin old (reply.Commit answer) calls told accepted = absurd told
+told_begin old (reply.List answer) calls told accepted = absurd told
+told_begin old (reply.Committed answer) calls told accepted = absurd told
+told_begin old (reply.Keys answer) calls told accepted = absurd told
+told_begin old (reply.Log len used) calls told accepted = absurd told
+told_begin old (reply.Unkept fault) calls told accepted = absurd told
+told_begin old (reply.Bad fault) calls told accepted = absurd told
 
-told_commit : (logged : Bool) → (answer : Reply) (calls : List Called) → ScriptTellsOf logged (Ok (command.Commit (tx 1))) answer calls → is_refusal answer ≡ false → (told : Result (Unit {0}) CommitFault) × (calls ≡ Commit (tx 1) told ∷ [])
-told_commit logged (reply.Begin answer) calls told accepted = absurd told
-told_commit logged (reply.Put answer) calls told accepted = absurd told
-told_commit logged (reply.Claim answer) calls told accepted = absurd told
-told_commit logged (reply.Del answer) calls told accepted = absurd told
-told_commit logged (reply.Get answer) calls told accepted = absurd told
-told_commit logged (reply.Save answer) calls told accepted = absurd told
-told_commit logged (reply.Release answer) calls told accepted = absurd told
-told_commit logged (reply.Back answer) calls told accepted = absurd told
-told_commit logged (reply.Resume answer) calls told accepted = absurd told
-told_commit logged (reply.Abort answer) calls told accepted = absurd told
-told_commit logged (reply.Commit answer) calls told accepted = (answer, told)
-told_commit logged (reply.List answer) calls told accepted = absurd told
-told_commit logged (reply.Keys answer) calls told accepted = absurd told
-told_commit logged (reply.Log len used) calls told accepted = absurd told
-told_commit logged (reply.Unkept fault) calls told accepted = absurd (cc accepted)
-told_commit logged (reply.Bad fault) calls told accepted = absurd told
+told_commit : (old : Seen) → (answer : Reply) (calls : List Called) → ScriptTellsOf old (Ok (command.Commit (tx 1))) answer calls → is_refusal answer ≡ false → (told : Result (Unit {0}) CommitFault) × (calls ≡ Commit (tx 1) told ∷ [])
+told_commit old (reply.Begin answer) calls told accepted = absurd told
+told_commit old (reply.Put answer) calls told accepted = absurd told
+told_commit old (reply.Claim answer) calls told accepted = absurd told
+told_commit old (reply.Del answer) calls told accepted = absurd told
+told_commit old (reply.Get answer) calls told accepted = absurd told
+told_commit old (reply.Save answer) calls told accepted = absurd told
+told_commit old (reply.Release answer) calls told accepted = absurd told
+told_commit old (reply.Back answer) calls told accepted = absurd told
+told_commit old (reply.Resume answer) calls told accepted = absurd told
+told_commit old (reply.Abort answer) calls told accepted = absurd told
+told_commit old (reply.Commit answer) calls told accepted = (answer, told)
+told_commit old (reply.List answer) calls told accepted = absurd told
+told_commit old (reply.Committed answer) calls told accepted = absurd told
+told_commit old (reply.Keys answer) calls told accepted = absurd told
+told_commit old (reply.Log len used) calls told accepted = absurd told
+told_commit old (reply.Unkept fault) calls told accepted = absurd (cc accepted)
+told_commit old (reply.Bad fault) calls told accepted = absurd told
 
-told_put : (logged : Bool) → (e : List ℕ × List ℕ) (answer : Reply) (calls : List Called) → ScriptTellsOf logged (put_of e) answer calls → is_refusal answer ≡ false → (before : Option (List ℕ)) × (calls ≡ Put (tx 1) e.0 e.1 (Ok before) ∷ [])
-told_put logged e (reply.Begin answer) calls told accepted = absurd told
-told_put logged e (reply.Put (Ok before)) calls told accepted = (before, told)
-told_put logged e (reply.Put (Err fault)) calls told accepted = absurd (cc)
-told_put logged e (reply.Claim answer) calls told accepted = absurd told
-told_put logged e (reply.Del answer) calls told accepted = absurd told
-told_put logged e (reply.Get answer) calls told accepted = absurd told
-told_put logged e (reply.Save answer) calls told accepted = absurd told
-told_put logged e (reply.Release answer) calls told accepted = absurd told
-told_put logged e (reply.Back answer) calls told accepted = absurd told
-told_put logged e (reply.Resume answer) calls told accepted = absurd told
-told_put logged e (reply.Abort answer) calls told accepted = absurd told
-told_put logged e (reply.Commit answer) calls told accepted = absurd told
-told_put logged e (reply.List answer) calls told accepted = absurd told
-told_put logged e (reply.Keys answer) calls told accepted = absurd told
-told_put logged e (reply.Log len used) calls told accepted = absurd told
-told_put logged e (reply.Unkept fault) calls told accepted = absurd told
-told_put logged e (reply.Bad fault) calls told accepted = absurd told
+told_put : (old : Seen) → (e : List ℕ × List ℕ) (answer : Reply) (calls : List Called) → ScriptTellsOf old (put_of e) answer calls → is_refusal answer ≡ false → (before : Option (List ℕ)) × (calls ≡ Put (tx 1) e.0 e.1 (Ok before) ∷ [])
+told_put old e (reply.Begin answer) calls told accepted = absurd told
+told_put old e (reply.Put (Ok before)) calls told accepted = (before, told)
+told_put old e (reply.Put (Err fault)) calls told accepted = absurd (cc)
+told_put old e (reply.Claim answer) calls told accepted = absurd told
+told_put old e (reply.Del answer) calls told accepted = absurd told
+told_put old e (reply.Get answer) calls told accepted = absurd told
+told_put old e (reply.Save answer) calls told accepted = absurd told
+told_put old e (reply.Release answer) calls told accepted = absurd told
+told_put old e (reply.Back answer) calls told accepted = absurd told
+told_put old e (reply.Resume answer) calls told accepted = absurd told
+told_put old e (reply.Abort answer) calls told accepted = absurd told
+told_put old e (reply.Commit answer) calls told accepted = absurd told
+told_put old e (reply.List answer) calls told accepted = absurd told
+told_put old e (reply.Committed answer) calls told accepted = absurd told
+told_put old e (reply.Keys answer) calls told accepted = absurd told
+told_put old e (reply.Log len used) calls told accepted = absurd told
+told_put old e (reply.Unkept fault) calls told accepted = absurd told
+told_put old e (reply.Bad fault) calls told accepted = absurd told
 
 -- what a step leaves of the records
 record Leads (old : Seen) (left : Contents) (new : Seen) : Type 0 where
@@ -151,21 +154,21 @@ record Leads (old : Seen) (left : Contents) (new : Seen) : Type 0 where
 
 begun : (old new : Seen) (answer : Reply) → HasReply old (Ok command.Begin) answer new → is_refusal answer ≡ false → Leads old old.records new
 begun old new answer reply accepted =
-    let told = told_begin old.logged answer (map (λ e. e.called) reply.events) reply.told accepted in
+    let told = told_begin old answer (map (λ e. e.called) reply.events) reply.told accepted in
     let step = one_step (undoubted old) (undoubted new) reply.events (Begin told.0) told.1 reply.ran in
     let same = subst (λ (called : Called). Answers (undoubted old) called step.0.failed step.0.refused (undoubted new)) step.1 step.2.happens.answer in
     record { records = ap (λ (s : Seen). s.records) same.0.2; sound = step.2.happens.sound }
 
 committed : (old new : Seen) (answer : Reply) → HasReply old (Ok (command.Commit (tx 1))) answer new → is_refusal answer ≡ false → Leads old old.records new
 committed old new answer reply accepted =
-    let told = told_commit old.logged answer (map (λ e. e.called) reply.events) reply.told accepted in
+    let told = told_commit old answer (map (λ e. e.called) reply.events) reply.told accepted in
     let step = one_step (undoubted old) (undoubted new) reply.events (Commit (tx 1) told.0) told.1 reply.ran in
     let same = subst (λ (called : Called). Answers (undoubted old) called step.0.failed step.0.refused (undoubted new)) step.1 step.2.happens.answer in
     record { records = ap (λ (s : Seen). s.records) same.0.2; sound = step.2.happens.sound }
 
 put : (old new : Seen) (e : List ℕ × List ℕ) (answer : Reply) → HasReply old (put_of e) answer new → is_refusal answer ≡ false → IsTrue old.sound → Leads old (insert old.records e.0 e.1) new
 put old new e answer reply accepted sound =
-    let told = told_put old.logged e answer (map (λ e. e.called) reply.events) reply.told accepted in
+    let told = told_put old e answer (map (λ e. e.called) reply.events) reply.told accepted in
     let step = one_step (undoubted old) (undoubted new) reply.events (Put (tx 1) e.0 e.1 (Ok told.0)) told.1 reply.ran in
     let known = subst (λ (called : Called). Answers (undoubted old) called step.0.failed step.0.refused (undoubted new)) step.1 step.2.happens.answer in
     let logged = known.1.accepted.logged in

@@ -22,10 +22,10 @@ use Rattle.tx_log.specs.LogState.{phase_of}
 use Rattle.tx_log.specs.Transactions.{Tx}
 use Rattle.std.specs.Ordering.{nat_cmp}
 use Rattle.recfile.specs.DurableSession.{FindsCommits, FindsEachCommit}
-use Rattle.recfile.specs.LogOver.{Finds}
-use Rattle.recfile.specs.Overlaid.{SayWrites, writes_in_turn}
+use Rattle.file_session.specs.LogOver.{Finds}
+use Rattle.file_session.specs.Overlaid.{SayWrites, writes_in_turn}
 use Rattle.recfile.specs.SessionCommits.{IsInDoubt, MakesCommits}
-use Rattle.recfile.proofs.KeptOnceLemmas.{finds_once}
+use Rattle.file_session.proofs.FindsOnceLemmas.{finds_once}
 
 -- all commits are found, where none is in doubt
 all_found : (order : ℕ) (contents : Contents) (kept doubted : List (List Write)) (c : Files) → doubted ≡ [] → FindsEachCommit order contents kept doubted c → Finds order (overlay contents (writes_in_turn kept)) c

@@ -21,16 +21,17 @@ use Rattle.record_file.specs.Abstract.{File, charged_of, new_file}
 use Rattle.record_file.specs.Durable.{CommitsKept, committed, ended, overlay}
 use Rattle.record_file.specs.Runs.{Event, Seen}
 use Rattle.record_file.proofs.CommitLemmas.{start_commits}
-use Rattle.recfile.specs.Beside.{FindsEach, FindsSome, FindsWhole, LeavesEnded, LeavesOpening, LosesNone}
-use Rattle.recfile.specs.DurableSession.{FindsCommits, FindsEachCommit, AreFirstCommits, IsBegunBeside, LeavesUnread}
+use Rattle.file_session.specs.Beside.{FindsEach, FindsSome, FindsWhole, LeavesEnded, LeavesOpening, LosesNone}
+use Rattle.recfile.specs.DurableSession.{FindsCommits, FindsEachCommit, AreFirstCommits}
+use Rattle.file_session.specs.Beginning.{IsBegunBeside, LeavesUnread}
 use Rattle.page_journal.specs.Crash.{FilesStandFor}
 use Rattle.recfile.specs.Ending.{rest_of}
-use Rattle.recfile.specs.Kept.{opening_file}
-use Rattle.recfile.specs.Run.{SaysWrites}
-use Rattle.recfile.specs.LogOver.{Finds, FindsLog, HoldsRecords, IsLogOver, head_line, said_by}
-use Rattle.recfile.specs.Overlaid.{IsLogCommand, SayWrites, writes_in_turn}
-use Rattle.recfile.proofs.LogLemmas.{log_writes, unit_logged}
-use Rattle.recfile.proofs.LogOverLemmas.{over_again}
+use Rattle.file_session.specs.Closing.{opening_file}
+use Rattle.file_session.specs.LogKeeping.{SaysWrites}
+use Rattle.file_session.specs.LogOver.{Finds, FindsLog, HoldsRecords, IsLogOver, head_line, said_by}
+use Rattle.file_session.specs.Overlaid.{IsLogCommand, SayWrites, writes_in_turn}
+use Rattle.file_session.proofs.LogLemmas.{log_writes, unit_logged}
+use Rattle.file_session.proofs.LogOverLemmas.{over_again}
 
 abbrev Units : Type 0
 Units = List (List (List ℕ))

@@ -10,17 +10,17 @@ use Rattle.record_file.specs.Durable.{overlay}
 use Rattle.record_file.specs.Runs.{Seen, seen_as, undoubted}
 use Rattle.recfile.specs.DurableSession.{logged_file}
 use Rattle.command_text.specs.Units.{Write}
-use Rattle.recfile.specs.Kept.{opening_file}
-use Rattle.recfile.specs.LogKeeping.{IsKeptBeside}
-use Rattle.recfile.specs.LogOver.{HoldsRecords, HoldsWithin}
-use Rattle.recfile.specs.Overlaid.{writes_in_turn}
+use Rattle.file_session.specs.Closing.{opening_file}
+use Rattle.file_session.specs.LogKeeping.{IsKeptBeside}
+use Rattle.file_session.specs.LogOver.{HoldsRecords, HoldsWithin}
+use Rattle.file_session.specs.Overlaid.{writes_in_turn}
 use Rattle.recfile.specs.SessionCommits.{IsInDoubt, MakesCommits, in_doubt}
 use Rattle.recfile.specs.WholeSession.{IsSession}
 use Rattle.recfile.specs.declared.endings.EndFault.{EndFault}
 use Rattle.recfile.specs.declared.manner.Manner.{Manner}
 use Rattle.recfile.specs.declared.script.RunFault.{RunFault}
 use Rattle.recfile.proofs.DurableLemmas.{DoubtIs, kept_make, rest_ended}
-use Rattle.recfile.proofs.KeptLemmas.{ok_wider}
+use Rattle.file_session.proofs.ClosingLemmas.{ok_wider}
 use Rattle.recfile.proofs.OpenedLemmas.{treed}
 use Rattle.recfile.proofs.SessionCommitLemmas.{session_made}
 

@@ -18,7 +18,7 @@ use Rattle.btree_delete.proofs.TableViewLemmas.{no_contents}
 use Rattle.btree_load.specs.Trees.{IsFilled}
 use Rattle.btree_load.proofs.ShapeLemmas.{contents_put}
 use Rattle.recfile.specs.Filling.{IsBlankFile, loaded}
-use Rattle.recfile.specs.Kept.{HasRecords, IsKeptWith}
+use Rattle.file_session.specs.Closing.{HasRecords, IsKeptWith}
 
 -- a filled file has the records that were loaded
 pub has_loaded : (order : ℕ) (records : List Element) (main found : PageFile) → Ascends records → IsFilled order main.pages main.tail records → found ≡ main → HasRecords order (loaded records) found

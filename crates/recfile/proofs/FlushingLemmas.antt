@@ -11,14 +11,14 @@ use Rattle.page_journal.specs.Crash.{IsAtRest}
 use Rattle.page_journal.specs.Files.{Files, PageFile, SideFile, recovered, recovered_by}
 use Rattle.page_journal.specs.declared.disk_state.DiskState.{Ghosts}
 use Rattle.record_file.specs.Durable.{overlay}
-use Rattle.recfile.specs.Beside.{IsSettledWith}
+use Rattle.file_session.specs.Beside.{IsSettledWith}
 use Rattle.recfile.specs.DurableSession.{RunsLogged}
 use Rattle.recfile.specs.Flushing.{BeginsNext, Flushes, RunsTo, SessionPoint}
-use Rattle.recfile.specs.LogOver.{HoldsRecords, HoldsWithin}
-use Rattle.recfile.specs.Overlaid.{writes_in_turn}
-use Rattle.recfile.specs.Settling.{IsJustSettled}
+use Rattle.file_session.specs.LogOver.{HoldsRecords, HoldsWithin}
+use Rattle.file_session.specs.Overlaid.{writes_in_turn}
+use Rattle.file_session.specs.Settling.{IsJustSettled}
 use Rattle.recfile.specs.Streams.{CallsMade}
-use Rattle.recfile.specs.declared.file_fault.FileFault.{FileFault}
+use Rattle.file_session.specs.declared.file_fault.FileFault.{FileFault}
 use Rattle.recfile.specs.declared.manner.Manner.{Manner}
 
 -- a closed file has as many records as its tree says
@@ -93,7 +93,7 @@ module _ {D : Type 0} (g : Ghosts D) (manner : Manner) (limits : Bounds) (old cl
       began = next.again.began;
       moment = next.again.moment;
       alone = λ steady.
-          ap (λ (f : Files). f.commits.log) (sym (next.again.began steady) ∙ next.again.seen)
+          ap (λ (f : Files). f.commits.log) (sym next.again.began ∙ next.again.seen)
           ∙ (any_settled (sym (session.steady refl) ∙ sym next.again.steady ∙ steady)).2.no_log.seen;
     }
 
@@ -107,7 +107,7 @@ module _ {D : Type 0} (g : Ghosts D) (manner : Manner) (limits : Bounds) (old cl
           let ends = session.session steady order contents holds in
           let has = settled steady order contents holds in
           let ok = first_of_and _ _ ends.flush in
-          let file = ap recovered (sym (next.again.began (next.again.steady ∙ session.steady refl ∙ steady)) ∙ next.again.seen) ∙ ap (λ (side : Option SideFile). recovered_by side (g.seen closed.disk).main) has.settled.no_side in
+          let file = ap recovered (sym next.again.began ∙ next.again.seen) ∙ ap (λ (side : Option SideFile). recovered_by side (g.seen closed.disk).main) has.settled.no_side in
           subst (HoldsWithin limits.records order (overlay contents (writes_in_turn ends.made.kept))) (sym file)
           (fewer limits.records order (overlay contents (writes_in_turn ends.made.kept)) (g.seen closed.disk).main has.has
           (subst (λ (m : Contents). maps.len m ≤ limits.records) (of_ok ends.run.ended _ ok ends.records) (of_ok ends.run.ended _ ok ends.within)));

@@ -1,7 +1,5 @@
-mod ClosingCountLemmas
 mod StreamLemmas
 pub mod AskingLemmas
-pub mod ScriptCutLemmas
 pub mod EndingLemmas
 pub mod OneEndingLemmas
 pub mod ScriptRunLemmas
@@ -24,14 +22,9 @@ mod CommitCallLemmas
 pub mod CopiedLemmas
 pub mod FillingLemmas
 pub mod ListLemmas
-pub mod LogLemmas
-pub mod LogOverLemmas
-pub mod SettlingLemmas
-pub mod OverlayFaultLemmas
 pub mod SettledOnceLemmas
 pub mod SessionCommitLemmas
 pub mod DurableLemmas
 pub mod DurableRunLemmas
 pub mod DurableExampleLemmas
-pub mod HeadLemmas
 pub mod FlushingLemmas

@@ -12,6 +12,7 @@ use Rattle.record_file.specs.Abstract.{OpenFile}
 use Rattle.record_file.specs.OwnedRecords.{GoesTo}
 use Rattle.record_file.specs.Runs.{Made, Entries}
 use Rattle.record_file.specs.declared.fault.EntriesFault.{EntriesFault}
+use Rattle.recfile.specs.ListEnd.{EndsList}
 use Rattle.recfile.specs.Listed.{SpellsEntries}
 use Rattle.recfile.specs.Run.{CommandTold, SameOrigin, ToldReply}
 use Rattle.recfile.specs.declared.list_text.ListText.{ListText}
@@ -21,21 +22,20 @@ use Rattle.recfile.proofs.CallRunLemmas.{told_by}
 pub list_told : {T E : Type 0} (t : Ghosts T) (old new : OpenFile T) (answer : Result (List Entry) EntriesFault) → Made t old (Entries answer) new → (made : Result Bool E) (text : List ℕ) → ToldReply (replies.List answer) made text → CommandTold t (SameOrigin t) old (Ok commands.List) made text new
 list_told t old new answer is made text told = told_by t old new (Entries answer) is (Ok commands.List) (replies.List answer) made text (λ logged. refl) (λ logged. tt) (λ logged same. same) refl told
 
--- all entries went into an empty text, and then how many they are
-pub whole_list : (start behind : ListText) (answer : Result (List Entry) EntriesFault) (done : Unit {0}) (text : List ℕ) → string_bytes start.text ≡ [] → start.count ≡ 0
-    → GoesTo {F = Memory} (λ es. SpellsEntries start es behind) (λ es fault. Unit {0}) answer (Ok (Ok done)) → text ≡ string_bytes behind.text ++ line (number_text behind.count) → ToldReply {E = Memory} (replies.List answer) (Ok false) text
-whole_list start behind (Ok es) done text empty none goes is =
+-- the entries that went to an empty text, and then how many they are; or why there is no list
+pub list_ends : (start behind : ListText) (answer : Result (List Entry) EntriesFault) (told : Result (Result (Unit {0}) Memory) EntriesFault) (made : Result Bool Memory) (text : List ℕ) → string_bytes start.text ≡ [] → start.count ≡ 0
+    → GoesTo (λ es. SpellsEntries start es behind) (λ es fault. Unit {0}) answer told → EndsList behind told made text → ToldReply (replies.List answer) made text
+list_ends start behind (Ok es) (Ok (Ok done)) (Ok refused) text empty none goes is =
     let lines = flat_map entry_line es in
     let count : behind.count ≡ length es = omega (arith, none, goes.1) in (
-      is
+      is.0
           ∙ ap (λ (t : List ℕ). t ++ line (number_text behind.count)) (goes.0 ∙ ap (λ (t : List ℕ). t ++ lines) empty)
           ∙ ap (λ (n : ℕ). lines ++ line (number_text n)) count
           ∙ sym (append_assoc lines (number_text (length es)) (10 ∷ [])),
-      refl,
+      is.1,
     )
-whole_list start behind (Err fault) done text empty none goes is = absurd goes
-
--- there is no list, and the fault is told
-pub no_list : {E F : Type 0} (told : List Entry → Type 0) (stops : List Entry → F → Type 0) (answer : Result (List Entry) EntriesFault) (fault : EntriesFault) (made : Result Bool E) (text : List ℕ) → GoesTo told stops answer (Err fault) → ToldReply (replies.List (Err fault)) made text → ToldReply (replies.List answer) made text
-no_list told stops (Ok es) fault made text goes is = absurd goes
-no_list told stops (Err named) fault made text goes is = subst (λ f. ToldReply (replies.List (Err f)) made text) goes.0 is
+list_ends start behind (Ok es) (Ok (Ok done)) (Err fault) text empty none goes is = tt
+list_ends start behind (Ok es) (Ok (Err fault)) made text empty none goes is = subst (λ (m : Result Bool Memory). ToldReply (replies.List (Ok es)) m text) (sym is) tt
+list_ends start behind (Err named) (Err fault) made text empty none goes is = subst (λ (f : EntriesFault). ToldReply (replies.List (Err f)) made text) goes.0 is
+list_ends start behind (Ok es) (Err fault) made text empty none goes is = absurd goes
+list_ends start behind (Err named) (Ok taken) made text empty none goes is = absurd goes

@@ -1,5 +1,5 @@
 -- A session over the table of a page file.
-use Rattle.std.proofs.Common.{◌≡◌, ◌≤◌, ℕ, Bool, true, false, List, [], Result, Ok, MatchResult, IsTrue, if◌then◌else◌, refl, sym, ap, subst, ◌∙◌, arith}
+use Rattle.std.proofs.Common.{◌≡◌, ℕ, Bool, true, false, List, [], Result, Ok, MatchResult, IsTrue, if◌then◌else◌, refl, sym, ap, subst, ◌∙◌, arith}
 use Rattle.std.specs.FinMap as maps
 use Rattle.std.specs.FinMap.{len-empty}
 use Rattle.std.specs.Cmp.Lexicographic.{slice_cmp}
@@ -8,15 +8,11 @@ use Rattle.rec_types.specs.Contents.{Contents}
 use Rattle.btree_insert.proofs.ContentsLemmas.{len-contents_of}
 use Rattle.rec_types.specs.LimitBounds.{Bounds}
 use Rattle.rec_types.specs.declared.table_state.TableState.{Ghosts}
-use Rattle.page_store.specs.PagesView.{PagesView}
-use Rattle.btree_insert.specs.Contents.{contents_of}
 use Rattle.btree_insert.specs.declared.tree.Tree.{Tree}
-use Rattle.btree_delete.specs.CleanFile.{Opens}
 use Rattle.btree_delete.specs.Origins.{Origin, origin_of}
 use Rattle.btree_delete.specs.TableView.{IsClosed, TableView, table_contents}
 use Rattle.record_file.specs.Abstract.{OpenFile, new_file}
 use Rattle.record_file.specs.Runs.{seen, seen_as}
-use Rattle.recfile.specs.Dumped.{CanBeOpened}
 use Rattle.recfile.specs.DurableSession.{logged_file}
 use Rattle.recfile.specs.Statuses.{exit_status_of}
 use Rattle.recfile.specs.WholeSession.{IsUncounted, opened_file}
@@ -71,16 +67,6 @@ begun f table limits is = subst (λ (x : OpenFile TableView). x.file ≡ new_fil
 pub begun_logged : (f : OpenFile TableView) (table : TableView) (limits : Bounds) → f ≡ record { table = table; file = new_file (table_contents table) limits; log = [] }
     → (seen_as true treed f).file ≡ new_file (seen_as true treed f).records limits
 begun_logged f table limits is = subst (λ (x : OpenFile TableView). x.file ≡ new_file (table_contents x.table) limits) (sym is) refl
-
--- what was opened is a closed file within the limit
-pub can_be_opened : (stored : List (List ℕ)) (tail limit reads : ℕ) (pages : PagesView) (tree : Tree) → Opens stored tail limit reads pages tree → CanBeOpened stored tail limit
-can_be_opened stored tail limit reads pages tree opened = (
-  tree,
-  contents_of opened.es,
-  opened.h.version,
-  record { h = opened.h; es = opened.es; us = opened.us; version_is = refl; clean = opened.clean; records = refl },
-  subst (λ (n : ℕ). n ≤ limit) (sym opened.clean.count) opened.few,
-)
 
 -- no status of a session whose transactions were ended is 4
 pub never_4 : (file_fault script_fault : Bool) → exit_status_of false file_fault script_fault ≡ 4 → ⊥

@@ -5,14 +5,15 @@ use Rattle.rec_types.specs.declared.table.TableFault.{TableFault}
 use Rattle.rec_types.specs.declared.table.TableFault.TheVariants as listing
 use Rattle.record_texts.specs.declared.form.Form.{Form}
 use Rattle.rec_types.specs.Told.{TakesFront}
-use Rattle.recfile.specs.Dumped.{CanBeOpened, Dumps, IsDumpFault, IsOfListing, IsOutsideFile, IsPartWritten, IsSilent, IsSilentInside, ReadingStops, text_in}
-use Rattle.recfile.specs.FileFaults.{fault_of_listing}
+use Rattle.file_session.specs.Opened.{CanBeOpened, IsOutsideFile}
+use Rattle.recfile.specs.Dumped.{Dumps, IsDumpFault, IsOfListing, IsPartWritten, IsSilent, IsSilentInside, ReadingStops, text_in}
+use Rattle.file_session.specs.FileFaults.{fault_of_listing}
 use Rattle.recfile.specs.Spelled.{IsOfText, PartWritten, Stops, Took, foot_in, head_in}
 use Rattle.recfile.specs.Tasks.{IsDump, WritesListed}
 use Rattle.recfile.specs.declared.dump.DumpFault.{DumpFault}
 use Rattle.recfile.specs.declared.dump.DumpFault.TheVariants.{File, Write}
 use Rattle.recfile.specs.declared.dump_text.DumpText.{DumpText}
-use Rattle.recfile.specs.declared.file_fault.FileFault.{FileFault}
+use Rattle.file_session.specs.declared.file_fault.FileFault.{FileFault}
 use Rattle.recfile.proofs.SpelledLemmas.{dumps, ends_in_part, front_in_part, front_of_part, stops_in_part}
 
 -- a dump of these records, or why it isn't whole

@@ -142,59 +142,62 @@ uncleared : (limits : Bounds) (es : Records) (s : Seen) → Loading limits es (u
 uncleared limits es s is = record { file = is.file; few = is.few; sound = is.sound; failures = is.failures }
 
 -- which call a reply tells of
-begin_told : (logged : Bool) → (answer : Reply) (calls : List Called) → ScriptTellsOf logged (Ok command.Begin) answer calls → (told : Result TxId BeginFault) × (answer ≡ reply.Begin told) × (calls ≡ Begin told ∷ [])
-begin_told logged (reply.Begin answer) calls told = (answer, refl, told)
-begin_told logged (reply.Put answer) calls told = absurd told
-begin_told logged (reply.Claim answer) calls told = absurd told
-begin_told logged (reply.Del answer) calls told = absurd told
-begin_told logged (reply.Get answer) calls told = absurd told
-begin_told logged (reply.Save answer) calls told = absurd told
-begin_told logged (reply.Release answer) calls told = absurd told
-begin_told logged (reply.Back answer) calls told = absurd told
-begin_told logged (reply.Resume answer) calls told = absurd told
-begin_told logged (reply.Abort answer) calls told = absurd told
-begin_told logged (reply.Commit answer) calls told = absurd told
-begin_told logged (reply.List answer) calls told = absurd told
-begin_told logged (reply.Keys answer) calls told = absurd told
-begin_told logged (reply.Log size used) calls told = absurd told
-begin_told logged (reply.Unkept fault) calls told = absurd told
-begin_told logged (reply.Bad fault) calls told = absurd told
+begin_told : (old : Seen) → (answer : Reply) (calls : List Called) → ScriptTellsOf old (Ok command.Begin) answer calls → (told : Result TxId BeginFault) × (answer ≡ reply.Begin told) × (calls ≡ Begin told ∷ [])
+begin_told old (reply.Begin answer) calls told = (answer, refl, told)
+begin_told old (reply.Put answer) calls told = absurd told
+begin_told old (reply.Claim answer) calls told = absurd told
+begin_told old (reply.Del answer) calls told = absurd told
+begin_told old (reply.Get answer) calls told = absurd told
+begin_told old (reply.Save answer) calls told = absurd told
+begin_told old (reply.Release answer) calls told = absurd told
+begin_told old (reply.Back answer) calls told = absurd told
+begin_told old (reply.Resume answer) calls told = absurd told
+begin_told old (reply.Abort answer) calls told = absurd told
+begin_told old (reply.Commit answer) calls told = absurd told
+begin_told old (reply.List answer) calls told = absurd told
+begin_told old (reply.Committed answer) calls told = absurd told
+begin_told old (reply.Keys answer) calls told = absurd told
+begin_told old (reply.Log size used) calls told = absurd told
+begin_told old (reply.Unkept fault) calls told = absurd told
+begin_told old (reply.Bad fault) calls told = absurd told
 
-put_told : (logged : Bool) → (e : List ℕ × List ℕ) (answer : Reply) (calls : List Called) → ScriptTellsOf logged (put_of e) answer calls → (told : Result (Option (List ℕ)) PutFault) × (answer ≡ reply.Put told) × (calls ≡ Put (tx 1) e.0 e.1 told ∷ [])
-put_told logged e (reply.Begin answer) calls told = absurd told
-put_told logged e (reply.Put answer) calls told = (answer, refl, told)
-put_told logged e (reply.Claim answer) calls told = absurd told
-put_told logged e (reply.Del answer) calls told = absurd told
-put_told logged e (reply.Get answer) calls told = absurd told
-put_told logged e (reply.Save answer) calls told = absurd told
-put_told logged e (reply.Release answer) calls told = absurd told
-put_told logged e (reply.Back answer) calls told = absurd told
-put_told logged e (reply.Resume answer) calls told = absurd told
-put_told logged e (reply.Abort answer) calls told = absurd told
-put_told logged e (reply.Commit answer) calls told = absurd told
-put_told logged e (reply.List answer) calls told = absurd told
-put_told logged e (reply.Keys answer) calls told = absurd told
-put_told logged e (reply.Log size used) calls told = absurd told
-put_told logged e (reply.Unkept fault) calls told = absurd told
-put_told logged e (reply.Bad fault) calls told = absurd told
+put_told : (old : Seen) → (e : List ℕ × List ℕ) (answer : Reply) (calls : List Called) → ScriptTellsOf old (put_of e) answer calls → (told : Result (Option (List ℕ)) PutFault) × (answer ≡ reply.Put told) × (calls ≡ Put (tx 1) e.0 e.1 told ∷ [])
+put_told old e (reply.Begin answer) calls told = absurd told
+put_told old e (reply.Put answer) calls told = (answer, refl, told)
+put_told old e (reply.Claim answer) calls told = absurd told
+put_told old e (reply.Del answer) calls told = absurd told
+put_told old e (reply.Get answer) calls told = absurd told
+put_told old e (reply.Save answer) calls told = absurd told
+put_told old e (reply.Release answer) calls told = absurd told
+put_told old e (reply.Back answer) calls told = absurd told
+put_told old e (reply.Resume answer) calls told = absurd told
+put_told old e (reply.Abort answer) calls told = absurd told
+put_told old e (reply.Commit answer) calls told = absurd told
+put_told old e (reply.List answer) calls told = absurd told
+put_told old e (reply.Committed answer) calls told = absurd told
+put_told old e (reply.Keys answer) calls told = absurd told
+put_told old e (reply.Log size used) calls told = absurd told
+put_told old e (reply.Unkept fault) calls told = absurd told
+put_told old e (reply.Bad fault) calls told = absurd told
 
-commit_told : (logged : Bool) → (answer : Reply) (calls : List Called) → was_kept answer ≡ false → ScriptTellsOf logged (Ok (command.Commit (tx 1))) answer calls → (told : Result (Unit {0}) CommitFault) × (answer ≡ reply.Commit told) × (calls ≡ Commit (tx 1) told ∷ [])
-commit_told logged (reply.Begin answer) calls kept told = absurd told
-commit_told logged (reply.Put answer) calls kept told = absurd told
-commit_told logged (reply.Claim answer) calls kept told = absurd told
-commit_told logged (reply.Del answer) calls kept told = absurd told
-commit_told logged (reply.Get answer) calls kept told = absurd told
-commit_told logged (reply.Save answer) calls kept told = absurd told
-commit_told logged (reply.Release answer) calls kept told = absurd told
-commit_told logged (reply.Back answer) calls kept told = absurd told
-commit_told logged (reply.Resume answer) calls kept told = absurd told
-commit_told logged (reply.Abort answer) calls kept told = absurd told
-commit_told logged (reply.Commit answer) calls kept told = (answer, refl, told)
-commit_told logged (reply.List answer) calls kept told = absurd told
-commit_told logged (reply.Keys answer) calls kept told = absurd told
-commit_told logged (reply.Log size used) calls kept told = absurd told
-commit_told logged (reply.Unkept fault) calls kept told = absurd (cc kept)
-commit_told logged (reply.Bad fault) calls kept told = absurd told
+commit_told : (old : Seen) → (answer : Reply) (calls : List Called) → was_kept answer ≡ false → ScriptTellsOf old (Ok (command.Commit (tx 1))) answer calls → (told : Result (Unit {0}) CommitFault) × (answer ≡ reply.Commit told) × (calls ≡ Commit (tx 1) told ∷ [])
+commit_told old (reply.Begin answer) calls kept told = absurd told
+commit_told old (reply.Put answer) calls kept told = absurd told
+commit_told old (reply.Claim answer) calls kept told = absurd told
+commit_told old (reply.Del answer) calls kept told = absurd told
+commit_told old (reply.Get answer) calls kept told = absurd told
+commit_told old (reply.Save answer) calls kept told = absurd told
+commit_told old (reply.Release answer) calls kept told = absurd told
+commit_told old (reply.Back answer) calls kept told = absurd told
+commit_told old (reply.Resume answer) calls kept told = absurd told
+commit_told old (reply.Abort answer) calls kept told = absurd told
+commit_told old (reply.Commit answer) calls kept told = (answer, refl, told)
+commit_told old (reply.List answer) calls kept told = absurd told
+commit_told old (reply.Committed answer) calls kept told = absurd told
+commit_told old (reply.Keys answer) calls kept told = absurd told
+commit_told old (reply.Log size used) calls kept told = absurd told
+commit_told old (reply.Unkept fault) calls kept told = absurd (cc kept)
+commit_told old (reply.Bad fault) calls kept told = absurd told
 
 -- a put is accepted
 record PutDone (limits : Bounds) (es : Records) (e : List ℕ × List ℕ) (answer : Result (Option (List ℕ)) PutFault) (new : Seen) : Type 0 where
@@ -260,14 +263,14 @@ rest_accepted limits done [] count old new [] room fits before ran kept = absurd
 rest_accepted limits done [] count old new (answer ∷ next ∷ replies) room fits before ran kept = absurd ran.2
 rest_accepted limits done [] count old new (answer ∷ []) room fits before ran kept =
     let step = ran.1 in
-    let told = commit_told old.logged answer (map (λ e. e.called) step.events) (All-head (λ r. was_kept r ≡ false) answer [] kept) step.told in
+    let told = commit_told old answer (map (λ e. e.called) step.events) (All-head (λ r. was_kept r ≡ false) answer [] kept) step.told in
     let one = one_step (undoubted old) (undoubted ran.0) step.events (Commit (tx 1) told.0) told.2 step.ran in
     let known = subst (λ (called : Called). Answers (undoubted old) called one.0.failed one.0.refused (undoubted ran.0)) one.1 one.2.happens.answer in
     All-cons (λ r. is_refusal r ≡ false) answer [] (ap is_refusal told.1 ∙ commit_done limits done (undoubted old) (undoubted ran.0) told.0 one.0.failed one.0.refused (cleared limits done old before) known) (All-nil (λ r. is_refusal r ≡ false))
 rest_accepted limits done (e ∷ es) count old new [] room fits before ran kept = absurd ran
 rest_accepted limits done (e ∷ es) count old new (answer ∷ replies) room fits before ran kept =
     let step = ran.1 in
-    let told = put_told old.logged e answer (map (λ e. e.called) step.events) step.told in
+    let told = put_told old e answer (map (λ e. e.called) step.events) step.told in
     let one = one_step (undoubted old) (undoubted ran.0) step.events (Put (tx 1) e.0 e.1 told.0) told.2 step.ran in
     let known = subst (λ (called : Called). Answers (undoubted old) called one.0.failed one.0.refused (undoubted ran.0)) one.1 one.2.happens.answer in
     let unkept = sym (ap was_kept told.1) ∙ All-head (λ r. was_kept r ≡ false) answer replies kept in
@@ -308,7 +311,7 @@ all_accepted : (limits : Bounds) (es : Records) (old new : Seen) (replies : List
 all_accepted limits es old new [] is sound few room ran kept = absurd ran
 all_accepted limits es old new (answer ∷ replies) is sound few room ran kept =
     let step = ran.1 in
-    let told = begin_told old.logged answer (map (λ e. e.called) step.events) step.told in
+    let told = begin_told old answer (map (λ e. e.called) step.events) step.told in
     let one = one_step (undoubted old) (undoubted ran.0) step.events (Begin told.0) told.2 step.ran in
     let known = subst (λ (called : Called). Answers (undoubted old) called one.0.failed one.0.refused (undoubted ran.0)) one.1 one.2.happens.answer in
     let unkept = sym (ap was_kept told.1) ∙ All-head (λ r. was_kept r ≡ false) answer replies kept in

@@ -1,7 +1,6 @@
 -- A run grows by one line at a time.
-use Rattle.std.proofs.Common.{◌≡◌, ℕ, ◌+◌, ◌<◌, ◌≤◌, Bool, true, false, cond, List, [], ◌∷◌, ◌++◌, length, filter, take, Option, Some, None, Ok, Err, IsTrue, refl, sym, ap, subst, ◌∙◌, arith, ◌==◌}
+use Rattle.std.proofs.Common.{◌≡◌, ℕ, ◌+◌, ◌<◌, ◌≤◌, Bool, true, false, cond, List, [], ◌∷◌, ◌++◌, length, filter, take, Option, Some, None, Ok, Err, IsTrue, refl, sym, ap, subst, ◌∙◌, arith}
 use Rattle.std.proofs.lemmas.Grind.{common_steps}
-use Rattle.std.proofs.lemmas.Bool.Decides.{nat_tests}
 use Rattle.std.specs.List.{All, flat_map}
 use Rattle.std.specs.Io.KnownBytes.{Appends}
 use Rattle.std.proofs.KnownBytes.{Appends-trans}
@@ -13,6 +12,7 @@ use Rattle.command_text.specs.Grammar.{Read, line_of}
 use Rattle.command_text.specs.Refusals.{is_refusal}
 use Rattle.command_text.specs.Script.{lines_of, entries_in, commands_of, keep}
 use Rattle.command_text.specs.Texts.{text_of}
+use Rattle.file_session.proofs.ScriptCutLemmas.{keep-append}
 use Rattle.recfile.specs.Run.{HasReply, LineHasReply, Session, Served, IsUnsent, AcceptedIf, LinesStop, RefusedAt, is_command, says_command, commands}
 use Rattle.record_file.specs.Runs.{Seen}
 use Rattle.recfile.specs.declared.script.RunFault.TheVariants.{Script}
@@ -60,11 +60,6 @@ pub record Walked (script rest : List ℕ) (old : Seen) (replies : List Reply) (
 -- before the first line
 pub walked_none : (script : List ℕ) (old : Seen) → Walked script script old [] old 0 0
 walked_none script old = record { passed = []; split = refl; ran = refl; count = refl; place = refl }
-
-pub keep-append : (line : Read (Option Command)) (xs ys : List (Read Command)) → keep line (xs ++ ys) ≡ keep line xs ++ ys
-keep-append (Ok None) xs ys = refl
-keep-append (Ok (Some c)) xs ys = refl
-keep-append (Err fault) xs ys = refl
 
 entries-append : (xs ys : List (List ℕ)) → entries_in (xs ++ ys) ≡ entries_in xs ++ entries_in ys
 entries-append [] ys = refl
@@ -170,8 +165,3 @@ count_fits false done more rest after limit is fits lt = omega (arith, is, fits,
 -- and so does each line
 pub lines_fit : (lines rest after limit : ℕ) → lines + rest ≤ limit → after < rest → lines + 1 + after ≤ limit
 lines_fit lines rest after limit fits lt = omega (arith, fits, lt)
-
--- where no bytes are left there are no lines
-pub nothing_left : (rest : List ℕ) → true ≡ (length rest == 0) → commands_of rest ≡ []
-nothing_left [] is = refl
-nothing_left (b ∷ rest) is = absurd (grind (arith, nat_tests))

@@ -17,8 +17,9 @@ use Rattle.record_file.specs.Durable.{CommitsKept, Keeps, overlay}
 use Rattle.record_file.specs.Runs as calls
 use Rattle.record_file.specs.Runs.{Called, Commit, Event, Seen, Run, is_commit, undoubted}
 use Rattle.record_file.proofs.CommitLemmas.{writes-replay}
-use Rattle.recfile.specs.Overlaid.{SayWrites, writes_in_turn}
-use Rattle.recfile.specs.Run.{AddsIf, AddsWrites, HasReply, SaysWrites, TellsDoubt, is_accepted}
+use Rattle.file_session.specs.Overlaid.{SayWrites, writes_in_turn}
+use Rattle.recfile.specs.Run.{AddsIf, HasReply, TellsDoubt, is_accepted}
+use Rattle.file_session.specs.LogKeeping.{AddsWrites, SaysWrites}
 use Rattle.recfile.specs.SessionCommits.{IsInDoubt, MakesCommits}
 use Rattle.recfile.specs.WholeSession.{RanAs}
 use Rattle.recfile.specs.declared.manner.Manner.{Manner}
@@ -127,6 +128,9 @@ keeps_none old (calls.RollbackTo a0 a1 a2) is = refl
 keeps_none old (calls.Abort a0 a1) is = refl
 keeps_none old (calls.Resume a0 a1) is = refl
 keeps_none old (calls.Entries a0) is = refl
+keeps_none old (calls.Beside a0 a1 a2) is = refl
+keeps_none old (calls.EntriesBeside a0 a1 a2) is = refl
+keeps_none old (calls.CommittedAt a0 a1) is = refl
 keeps_none old (calls.KeysOf a0 a1) is = refl
 keeps_none old (calls.StatusOf a0 a1) is = refl
 keeps_none old (calls.Charged a0) is = refl
@@ -165,6 +169,7 @@ accepted_by t (reply.Back a0) is = absurd (false≢true is)
 accepted_by t (reply.Resume a0) is = absurd (false≢true is)
 accepted_by t (reply.Abort a0) is = absurd (false≢true is)
 accepted_by t (reply.List a0) is = absurd (false≢true is)
+accepted_by t (reply.Committed a0) is = absurd (false≢true is)
 accepted_by t (reply.Keys a0) is = absurd (false≢true is)
 accepted_by t (reply.Log a0 a1) is = absurd (false≢true is)
 accepted_by t (reply.Unkept a0) is = absurd (false≢true is)
@@ -184,6 +189,9 @@ accepted (Ok (command.Resume a0)) answer is = absurd (false≢true is)
 accepted (Ok (command.Abort a0)) answer is = absurd (false≢true is)
 accepted (Ok command.List) answer is = absurd (false≢true is)
 accepted (Ok (command.Keys a0)) answer is = absurd (false≢true is)
+accepted (Ok (command.From a0 a1)) answer is = absurd (false≢true is)
+accepted (Ok (command.Upto a0 a1)) answer is = absurd (false≢true is)
+accepted (Ok (command.Committed a0)) answer is = absurd (false≢true is)
 accepted (Ok command.Log) answer is = absurd (false≢true is)
 accepted (Err fault) answer is = absurd (false≢true is)
 
@@ -244,6 +252,7 @@ reply_doubts old new events ran (Ok (command.Commit t)) (reply.Back a0) told = i
 reply_doubts old new events ran (Ok (command.Commit t)) (reply.Resume a0) told = inl told
 reply_doubts old new events ran (Ok (command.Commit t)) (reply.Abort a0) told = inl told
 reply_doubts old new events ran (Ok (command.Commit t)) (reply.List a0) told = inl told
+reply_doubts old new events ran (Ok (command.Commit t)) (reply.Committed a0) told = inl told
 reply_doubts old new events ran (Ok (command.Commit t)) (reply.Keys a0) told = inl told
 reply_doubts old new events ran (Ok (command.Commit t)) (reply.Log a0 a1) told = inl told
 reply_doubts old new events ran (Ok (command.Commit t)) (reply.Unkept unkept.Memory) told = inl told
@@ -261,6 +270,9 @@ reply_doubts old new events ran (Ok (command.Resume a0)) answer told = inl told
 reply_doubts old new events ran (Ok (command.Abort a0)) answer told = inl told
 reply_doubts old new events ran (Ok command.List) answer told = inl told
 reply_doubts old new events ran (Ok (command.Keys a0)) answer told = inl told
+reply_doubts old new events ran (Ok (command.From a0 a1)) answer told = inl told
+reply_doubts old new events ran (Ok (command.Upto a0 a1)) answer told = inl told
+reply_doubts old new events ran (Ok (command.Committed a0)) answer told = inl told
 reply_doubts old new events ran (Ok command.Log) answer told = inl told
 reply_doubts old new events ran (Err fault) answer told = inl told
 

@@ -7,14 +7,14 @@ use Rattle.page_journal.specs.History.{History, LeftSince}
 use Rattle.page_journal.specs.contracts.mem_disk.MemDiskDiskState.TheImpl.{ghosts}
 use Rattle.btree_delete.specs.declared.opening.open_fault.OpenFault.{OpenFault}
 use Rattle.btree_delete.specs.declared.opening.open_fault.OpenFault.TheVariants as opening
-use Rattle.recfile.specs.FileFaults.{fault_of_opening}
-use Rattle.recfile.specs.LogOver.{Finds, HoldsRecords}
-use Rattle.recfile.specs.Settling.{FindsAny, PutsRight}
-use Rattle.recfile.specs.declared.file_fault.FileFault.{FileFault}
-use Rattle.recfile.specs.declared.file_fault.FileFault.TheVariants.{BadCommits, BadJournal, Device}
-use Rattle.recfile.proofs.ClosingCountLemmas.{no_less, one_more}
-use Rattle.recfile.proofs.KeptOnceLemmas.{finds_once, held_once}
-use Rattle.recfile.proofs.SettlingLemmas.{not_outside, not_settling}
+use Rattle.file_session.specs.FileFaults.{fault_of_opening}
+use Rattle.file_session.specs.LogOver.{Finds, HoldsRecords}
+use Rattle.file_session.specs.Settling.{FindsAny, PutsRight}
+use Rattle.file_session.specs.declared.file_fault.FileFault.{FileFault}
+use Rattle.file_session.specs.declared.file_fault.FileFault.TheVariants.{BadCommits, BadJournal, Device}
+use Rattle.file_session.proofs.ClosingCountLemmas.{no_less, one_more}
+use Rattle.file_session.proofs.FindsOnceLemmas.{finds_once, held_once}
+use Rattle.file_session.proofs.SettlingLemmas.{not_outside, not_settling}
 
 pub settled_with_others : (old new : History) (order later : ℕ) (records others : Contents) → Finds order records old.first → records ≢ others → PutsRight ghosts old (Ok tt) new → HoldsRecords later others (ghosts.seen new).main → ⊥
 settled_with_others old new order later records others finds differ right held =

@@ -19,7 +19,8 @@ use Rattle.recfile.specs.PartLine.{IsPartOfLine, Part, no_part}
 use Rattle.recfile.specs.Run.{Session, commands, says_command}
 use Rattle.recfile.specs.Shell.{AsksFlush, LinesAnswered, AnsweredSoFar, Come, Fed, IsAnswered, LineAnswered, LineStops, RanLines, Start, StopsAtLine, counted_to}
 use Rattle.recfile.proofs.FedLemmas.{fed_none, fed_on, fed_end, ended_so_far, lines_at_end, ended_at}
-use Rattle.recfile.proofs.ScriptRunLemmas.{entry_of, keep-append, session-more, commands-more, written-none, written-more, accepted-more, length-more}
+use Rattle.recfile.proofs.ScriptRunLemmas.{entry_of, session-more, commands-more, written-none, written-more, accepted-more, length-more}
+use Rattle.file_session.proofs.ScriptCutLemmas.{keep-append}
 
 entries_by-append : (says : List ℕ → Read (Option Command)) (xs ys : List (List ℕ)) → entries_by says (xs ++ ys) ≡ entries_by says xs ++ entries_by says ys
 entries_by-append says [] ys = refl

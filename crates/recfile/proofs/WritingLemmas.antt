@@ -8,7 +8,7 @@ use Rattle.btree_node.specs.HeaderSpelling.{header_spelling, clean_state, writin
 use Rattle.btree_delete.specs.Closing.{header_of, closing}
 use Rattle.btree_delete.specs.TableView.{TableView}
 use Rattle.recfile.specs.StoreWrites.{WritesBack}
-use Rattle.recfile.specs.declared.file_fault.FileFault.{FileFault}
+use Rattle.file_session.specs.declared.file_fault.FileFault.{FileFault}
 
 -- the steps of a journal
 abbrev steps_in : Option Journal → List Step

@@ -1,35 +1,16 @@
 -- What a dump of a page file writes, and why there is none.
-use Rattle.std.specs.Prelude.{◌≡◌, ℕ, ◌<◌, ◌≤◌, ◌⊎◌, Bool, false, List, length, take, Option, Some, None, Result, Ok, Err}
+use Rattle.std.specs.Prelude.{◌≡◌, ℕ, ◌<◌, ◌⊎◌, Bool, false, List, length, take, Option, Some, None, Result, Ok, Err}
 use Rattle.std.specs.List.{All}
 use Rattle.std.specs.Io.KnownBytes.{Appends}
-use Rattle.rec_types.specs.Contents.{Contents}
 use Rattle.rec_types.specs.declared.table.TableFault.{TableFault}
-use Rattle.btree_insert.specs.declared.tree.Tree.{Tree}
-use Rattle.btree_delete.specs.CleanFile.{IsFirst}
-use Rattle.btree_delete.specs.TableView.{IsClosed}
-use Rattle.btree_delete.specs.declared.opening.open_fault.OpenFault.{OpenFault}
 use Rattle.command_text.specs.Dump.{dump_text, CanBePut}
 use Rattle.record_texts.specs.Forms.{records_text}
 use Rattle.record_texts.specs.declared.form.Form.{Form}
-use Rattle.recfile.specs.FileFaults.{fault_of_listing, fault_of_opening, is_file_device}
+use Rattle.file_session.specs.FileFaults.{fault_of_listing, is_file_device}
 use Rattle.recfile.specs.declared.dump.DumpFault.{DumpFault}
 use Rattle.recfile.specs.declared.dump.DumpFault.TheVariants.{File, Write}
-use Rattle.recfile.specs.declared.file_fault.FileFault.{FileFault}
-use Rattle.recfile.specs.declared.file_fault.FileFault.TheVariants.{Device, Memory}
-
--- the pages are a closed file of at most so many records
-abbrev pub CanBeOpened : List (List ℕ) → ℕ → ℕ → Type 0
-CanBeOpened stored tail limit =
-    (tree : Tree) × (contents : Contents) × (version : ℕ) × IsClosed version stored tail tree contents × (tree.count ≤ limit)
-
--- a fault from outside
-abbrev pub IsOutsideFile : FileFault → Type 0
-IsOutsideFile fault = (fault ≡ Device) ⊎ (fault ≡ Memory)
-
--- a fault from outside, or the first check of the file that fails
-abbrev pub IsFirstOrOutside : List (List ℕ) → ℕ → ℕ → FileFault → Type 0
-IsFirstOrOutside stored tail limit fault =
-    IsOutsideFile fault ⊎ ((first : OpenFault) × IsFirst stored tail limit first × (fault ≡ fault_of_opening first))
+use Rattle.file_session.specs.declared.file_fault.FileFault.{FileFault}
+use Rattle.file_session.specs.Opened.{CanBeOpened, IsFirstOrOutside, IsOutsideFile}
 
 -- whether the device failed
 abbrev pub is_device_dump : {A : Type 0} → Result A DumpFault → Bool

@@ -1,44 +1,29 @@
 -- What a session leaves whose commits are kept before they are answered, and what an opening finds after a stop of it.
-use Rattle.std.specs.Prelude.{◌≡◌, ◌⊎◌, ℕ, true, ◌≤◌, Bool, ◌&&◌, not, is_some, List, [], ◌∷◌, ◌++◌, Option, None, Result, OnOk}
+use Rattle.std.specs.Prelude.{◌≡◌, ◌⊎◌, ℕ, true, ◌≤◌, Bool, ◌&&◌, not, is_some, List, ◌++◌, Option, None, Result, OnOk}
 use Rattle.std.specs.FinMap as maps
 use Rattle.std.specs.Result.{is_ok}
 use Rattle.rec_types.specs.Contents.{Contents}
 use Rattle.rec_types.specs.LimitBounds.{Bounds}
-use Rattle.page_store.specs.Opening.{Opening}
-use Rattle.page_journal.specs.Files.{Belongs, Files, recovered}
-use Rattle.page_journal.specs.Crash.{StandsAs, FilesStandFor}
-use Rattle.page_journal.specs.Logging.{SaysNoneOr}
+use Rattle.page_journal.specs.Files.{Files}
 use Rattle.record_file.specs.Abstract.{new_file}
 use Rattle.page_journal.specs.declared.disk_state.DiskState.{Ghosts}
 use Rattle.command_text.specs.Units.{Write}
 use Rattle.record_file.specs.Durable.{overlay}
 use Rattle.record_file.specs.Runs.{Seen}
-use Rattle.recfile.specs.Beside.{IsSettledWith, LeavesOpening}
-use Rattle.recfile.specs.Dumped.{CanBeOpened}
-use Rattle.recfile.specs.Kept.{opening_file}
-use Rattle.recfile.specs.LogOver.{Finds, head_line}
-use Rattle.recfile.specs.Overlaid.{writes_in_turn}
+use Rattle.file_session.specs.Beside.{IsSettledWith}
+use Rattle.file_session.specs.LogOver.{Finds}
+use Rattle.file_session.specs.Overlaid.{writes_in_turn}
 use Rattle.recfile.specs.SessionCommits.{MakesCommits, in_doubt}
 use Rattle.recfile.specs.Streams.{CallsMade}
 use Rattle.recfile.specs.WholeSession.{RunsFile, is_flush, opened_file}
 use Rattle.recfile.specs.declared.endings.EndFault.{EndFault}
-use Rattle.recfile.specs.declared.file_fault.FileFault.{FileFault}
+use Rattle.file_session.specs.declared.file_fault.FileFault.{FileFault}
 use Rattle.recfile.specs.declared.manner.Manner.{Manner}
 use Rattle.recfile.specs.declared.script.RunFault.{RunFault}
 
 -- a page file with these records, beside which a log was begun with these commits; no transaction was begun
 abbrev pub logged_file : Contents → Bounds → ℕ → List (List (List ℕ)) → Seen
 logged_file contents limits failures commits = record (opened_file contents limits failures) { logged = true; commits = commits }
-
--- a log was begun beside the file that a store was opened over, in which no commit is yet
-pub record IsBegunBeside (opening : Opening) : Type 0 where
-  pub logged : opening.logged ≡ true
-  pub commits : opening.commits ≡ (head_line (opening_file opening) ∷ []) ∷ []
-  pub doubt : opening.doubt ≡ []
-
--- files that belong together, and stand for a closed file of no more than so many records
-abbrev pub StandForClosed : ℕ → Files → Type 0
-StandForClosed limit files = Belongs files × CanBeOpened (recovered files).pages (recovered files).tail limit
 
 -- whether the lines ended at a flush, and the file was closed
 abbrev pub flushed_by : Result ℕ RunFault → Result ℕ EndFault → Option FileFault → Bool
@@ -52,17 +37,6 @@ pub record RunsLogged (manner : Manner) (limits : Bounds) (left leaves held hold
   pub logged : old.logged ≡ true
   pub run : RunsFile manner left leaves held holds before after old unclosed status
   pub flush : flushed ≡ flushed_by run.answer run.ended unclosed
-
--- where the file isn't opened: it stays what it was, and the log beside it, or that was taken away
-abbrev pub LeavesUnread : Opening → Files → Type 0
-LeavesUnread opening c = LeavesOpening opening c ⊎ (FilesStandFor (opening_file opening) c × (c.commits.log ≡ None))
-
--- with no log, or with one in which no commit is
-abbrev pub LeavesUnbegun : Files → Files → Type 0
-LeavesUnbegun old c = FilesStandFor (recovered old) c × SaysNoneOr ((head_line (recovered old) ∷ []) ∷ []) c
-
-abbrev pub StandsUnbegun : Files → Files → Type 0
-StandsUnbegun old c = StandsAs old c × SaysNoneOr ((head_line (recovered old) ∷ []) ∷ []) c
 
 -- some of these commits, from the first on
 abbrev pub AreFirstCommits : List (List Write) → List (List Write) → Type 0

@@ -1,5 +1,5 @@
 -- What is found at a path, and what a task of the program leaves of it.
-use Rattle.std.specs.Prelude.{◌≡◌, ◌⊎◌, ℕ, ◌≤◌, Bool, true, false, List, [], ◌∷◌, length, Option, None, Result, Err, IsErr, IfSome, IfErr, OnOk, MatchOption, MatchResult, IsTrue}
+use Rattle.std.specs.Prelude.{◌≡◌, ◌⊎◌, ℕ, ◌≤◌, Bool, true, false, List, length, Option, None, Result, Err, IsErr, IfSome, IfErr, OnOk, MatchOption, MatchResult, IsTrue}
 use Rattle.std.specs.FinMap as maps
 use Rattle.std.specs.Io.KnownBytes.{Appends}
 use Rattle.rec_types.specs.Contents.{Contents}
@@ -15,11 +15,14 @@ use Rattle.btree_insert.specs.declared.tree.Tree.{Tree}
 use Rattle.btree_delete.specs.Created.{IsEmpty, IsOrder}
 use Rattle.btree_delete.specs.TableView.{IsClosed}
 use Rattle.record_texts.specs.declared.form.Form.{Form}
-use Rattle.recfile.specs.Dumped.{CanBeOpened, DumpStops, Dumps, IsDumpFault, IsFirstOrOutside, IsSilentInside, ReadingStops, text_in}
+use Rattle.file_session.specs.Opened.{CanBeOpened, IsFirstOrOutside}
+use Rattle.recfile.specs.Dumped.{DumpStops, Dumps, IsDumpFault, IsSilentInside, ReadingStops, text_in}
 use Rattle.recfile.specs.Flushing.{InARow}
-use Rattle.recfile.specs.FileFaults.{IsMakingFault, fault_of_copying, is_file_device}
-use Rattle.recfile.specs.Kept.{ClosesSafely, IsOutsideDisk, IsUnopened, LeavesAs, LeavesOld, RunsOn}
-use Rattle.recfile.specs.Settling.{SettlesAt}
+use Rattle.recfile.specs.FileFaults.{IsMakingFault, fault_of_copying}
+use Rattle.file_session.specs.FileFaults.{is_file_device}
+use Rattle.recfile.specs.Kept.{ClosesSafely, RunsOn}
+use Rattle.file_session.specs.Closing.{IsOutsideDisk, IsUnopened, LeavesAs, LeavesOld}
+use Rattle.file_session.specs.Settling.{SettlesAt}
 use Rattle.recfile.specs.StoreWrites.{MakesIn}
 use Rattle.recfile.specs.Streams.{CallsMade}
 use Rattle.recfile.specs.TreeLine.{counts_in, counts_line}
@@ -28,7 +31,7 @@ use Rattle.recfile.specs.declared.copying.CopyingFault.{CopyingFault}
 use Rattle.recfile.specs.declared.copying.CopyingFault.TheVariants.{OfFile, OfCopy}
 use Rattle.recfile.specs.declared.dump.DumpFault.{DumpFault}
 use Rattle.recfile.specs.declared.dump.DumpFault.TheVariants.{File}
-use Rattle.recfile.specs.declared.file_fault.FileFault.{FileFault}
+use Rattle.file_session.specs.declared.file_fault.FileFault.{FileFault}
 use Rattle.recfile.specs.declared.manner.Manner.{Manner}
 
 -- these pages are the file of a path by itself: no side file stands beside it

@@ -10,12 +10,13 @@ use Rattle.btree_node.specs.Lists.{Element, Ascends}
 use Rattle.btree_insert.specs.declared.tree.Tree.{Tree}
 use Rattle.btree_delete.specs.TableView.{IsClosed}
 use Rattle.btree_load.specs.Trees.{puts}
-use Rattle.recfile.specs.Dumped.{IsOutsideFile}
-use Rattle.recfile.specs.FileFaults.{file_by_device}
-use Rattle.recfile.specs.Kept.{ClosesSafely, CountsClosing, LeavesAs}
-use Rattle.recfile.specs.Settling.{SettlesAt}
+use Rattle.file_session.specs.Opened.{IsOutsideFile}
+use Rattle.file_session.specs.FileFaults.{file_by_device}
+use Rattle.recfile.specs.Kept.{ClosesSafely}
+use Rattle.file_session.specs.Closing.{CountsClosing, LeavesAs}
+use Rattle.file_session.specs.Settling.{SettlesAt}
 use Rattle.recfile.specs.Statuses.{exit_status_of}
-use Rattle.recfile.specs.declared.file_fault.FileFault.{FileFault}
+use Rattle.file_session.specs.declared.file_fault.FileFault.{FileFault}
 
 -- the records that a script leaves of an empty file, which puts them in one transaction
 abbrev pub loaded : List Element → Contents

@@ -4,18 +4,19 @@ use Rattle.std.specs.Io.KnownBytes.{Appends}
 use Rattle.rec_types.specs.Contents.{Contents}
 use Rattle.rec_types.specs.LimitBounds.{Bounds}
 use Rattle.page_journal.specs.Crash.{BeginsAgain}
-use Rattle.page_journal.specs.Files.{Files, Belongs, recovered}
+use Rattle.page_journal.specs.Files.{Files, recovered}
 use Rattle.page_journal.specs.Steps.{Stays}
 use Rattle.page_journal.specs.declared.disk_state.DiskState.{Ghosts}
 use Rattle.record_file.specs.Durable.{overlay}
-use Rattle.recfile.specs.DurableSession.{EndsDurably, RunsLogged, StandForClosed, StandsUnbegun}
-use Rattle.recfile.specs.FileFaults.{is_file_device}
-use Rattle.recfile.specs.Kept.{CountsClosing, IsOutsideDisk, IsUnopened, LeavesOld}
-use Rattle.recfile.specs.LogOver.{HoldsWithin, head_line}
-use Rattle.recfile.specs.Overlaid.{writes_in_turn}
+use Rattle.recfile.specs.DurableSession.{EndsDurably, RunsLogged}
+use Rattle.file_session.specs.Beginning.{StandForClosed, StandsUnbegun}
+use Rattle.file_session.specs.FileFaults.{is_file_device}
+use Rattle.file_session.specs.Closing.{CountsClosing, IsOutsideDisk, IsUnopened, LeavesOld}
+use Rattle.file_session.specs.LogOver.{HoldsWithin, head_line}
+use Rattle.file_session.specs.Overlaid.{writes_in_turn}
 use Rattle.recfile.specs.Streams.{CallsMade}
-use Rattle.recfile.specs.declared.file_fault.FileFault.{FileFault}
-use Rattle.recfile.specs.declared.file_fault.FileFault.TheVariants.{Device}
+use Rattle.file_session.specs.declared.file_fault.FileFault.{FileFault}
+use Rattle.file_session.specs.declared.file_fault.FileFault.TheVariants.{Device}
 use Rattle.recfile.specs.declared.manner.Manner.{Manner}
 
 -- A session over a disk that was just opened, beside which stands no log of commits, and where each commit is kept before it is answered: what it leaves of what the reader has and the writer holds, of the calls of both, and of the disk; its status, and whether it ended at a flush with its file closed.

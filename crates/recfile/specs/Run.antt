@@ -5,9 +5,15 @@ use Rattle.std.specs.Io.KnownBytes.{Appends}
 use Rattle.rec_types.specs.declared.table_state.TableState.{Ghosts}
 use Rattle.record_file.specs.Abstract.{OpenFile}
 use Rattle.record_file.specs.Steps.{tx_refusal}
-use Rattle.commit_paper.specs.Text.{IsUnit, unit_text}
 use Rattle.tx_log.specs.Written.{own, writes}
-use Rattle.record_file.specs.Runs.{Called, Event, Seen, IsKeptSeen, is_commit, seen_as, undoubted, Run, Begin, Put, Claim, Remove, Get, Savepoint, Release, RollbackTo, Abort, Resume, Commit, Entries, KeysOf, LogLen, LogUse}
+use Rattle.record_file.specs.Runs.{Called, Event, Seen, IsKeptSeen, is_commit, seen_as, undoubted, Run, Begin, Put, Claim, Remove, Get, Savepoint, Release, RollbackTo, Abort, Resume, Commit, Entries, EntriesBeside, CommittedAt, KeysOf, LogLen, LogUse}
+use Rattle.rec_types.specs.declared.gap.Gap.{Gap}
+use Rattle.rec_types.specs.declared.gap.Gap.TheVariants as gaps
+use Rattle.rec_types.specs.declared.side.Side.{Side}
+use Rattle.rec_types.specs.declared.side.Side.TheVariants.{After, Before}
+use Rattle.rec_types.specs.declared.transaction.Entry.{Entry}
+use Rattle.record_file.specs.AtMost.{limited_to}
+use Rattle.record_file.specs.declared.fault.EntriesFault.{EntriesFault}
 use Rattle.command_text.specs.declared.command.Command.{Command}
 use Rattle.command_text.specs.declared.command.Command.TheVariants as command
 use Rattle.command_text.specs.declared.reply.Reply.{Reply}
@@ -21,38 +27,40 @@ use Rattle.command_text.specs.Grammar.{Read, line_of}
 use Rattle.command_text.specs.Refusals.{is_refusal}
 use Rattle.command_text.specs.Script.{lines_of, entries_in, commands_of}
 use Rattle.command_text.specs.Texts.{text_of}
-use Rattle.command_text.specs.Units.{unit_lines, unit_commands}
+use Rattle.file_session.specs.LogKeeping.{AddsWrites, DoubtsWrites, SaysWrites, TellsWritesOf}
 use Rattle.recfile.specs.declared.script.ScriptFault.{ScriptFault}
 use Rattle.recfile.specs.declared.script.ScriptFault.TheVariants as faults
 use Rattle.recfile.specs.declared.script.RunFault.{RunFault}
 use Rattle.recfile.specs.declared.script.RunFault.TheVariants.{Script, Refused, Flush}
 use Rattle.recfile.specs.Whole.{IsWhole, IsTooLong, TakesAtMost, longest_script}
 
--- The calls that the reply to a command tells of. A line that can't be read makes no call, nor does a commit that isn't kept
--- where commits are kept before they are answered, and no other reply is given.
-abbrev pub ScriptTellsOf : Bool → Read Command → Reply → List Called → Type 0
-ScriptTellsOf logged (Err fault) (reply.Bad told) calls = (told ≡ fault) × (calls ≡ [])
-ScriptTellsOf logged (Ok command.Begin) (reply.Begin answer) calls = calls ≡ Begin answer ∷ []
-ScriptTellsOf logged (Ok (command.Put t x r)) (reply.Put answer) calls = calls ≡ Put t x r answer ∷ []
-ScriptTellsOf logged (Ok (command.Claim t x)) (reply.Claim answer) calls = calls ≡ Claim t x answer ∷ []
-ScriptTellsOf logged (Ok (command.Del t x)) (reply.Del answer) calls = calls ≡ Remove t x answer ∷ []
-ScriptTellsOf logged (Ok (command.Get t x)) (reply.Get answer) calls = calls ≡ Get t x answer ∷ []
-ScriptTellsOf logged (Ok (command.Save t)) (reply.Save answer) calls = calls ≡ Savepoint t answer ∷ []
-ScriptTellsOf logged (Ok (command.Release t n)) (reply.Release answer) calls = calls ≡ Release t n answer ∷ []
-ScriptTellsOf logged (Ok (command.Back t n)) (reply.Back answer) calls = calls ≡ RollbackTo t n answer ∷ []
-ScriptTellsOf logged (Ok (command.Resume t)) (reply.Resume answer) calls = calls ≡ Resume t answer ∷ []
-ScriptTellsOf logged (Ok (command.Abort t)) (reply.Abort answer) calls = calls ≡ Abort t answer ∷ []
-ScriptTellsOf logged (Ok (command.Commit t)) (reply.Commit answer) calls = calls ≡ Commit t answer ∷ []
-ScriptTellsOf logged (Ok command.List) (reply.List answer) calls = calls ≡ Entries answer ∷ []
-ScriptTellsOf logged (Ok (command.Keys t)) (reply.Keys answer) calls = calls ≡ KeysOf t answer ∷ []
-ScriptTellsOf logged (Ok command.Log) (reply.Log len used) calls = calls ≡ LogLen len ∷ LogUse used ∷ []
-ScriptTellsOf logged (Ok (command.Commit t)) (reply.Unkept fault) calls = IsTrue logged × (calls ≡ [])
-ScriptTellsOf logged entry answer calls = ⊥
+-- so many of the entries on a side of a gap, the nearest first, of all that a call answered
+abbrev pub TellsFirst : Side → Gap → ℕ → Result (List Entry) EntriesFault → List Called → Type 0
+TellsFirst side gap n answer calls = (all : Result (List Entry) EntriesFault) × (calls ≡ EntriesBeside side gap all ∷ []) × (answer ≡ limited_to n all)
 
--- These writes are kept, where any are: a script that makes them in a transaction of some number and commits it, and that is read so.
-abbrev pub AddsWrites : List (List (List ℕ)) → List (List ℕ × Option (List ℕ)) → List (List (List ℕ)) → Type 0
-AddsWrites old [] new = new ≡ old
-AddsWrites old (w ∷ ws) new = (n : ℕ) × (new ≡ old ++ unit_lines n (w ∷ ws) ∷ []) × (entries_in (unit_lines n (w ∷ ws)) ≡ unit_commands n (w ∷ ws))
+-- The calls that the reply to a command tells of. A line that can't be read makes no call, nor does a commit that would be
+-- accepted and isn't kept, where commits are kept before they are answered; and no other reply is given.
+abbrev pub ScriptTellsOf : Seen → Read Command → Reply → List Called → Type 0
+ScriptTellsOf old (Err fault) (reply.Bad told) calls = (told ≡ fault) × (calls ≡ [])
+ScriptTellsOf old (Ok command.Begin) (reply.Begin answer) calls = calls ≡ Begin answer ∷ []
+ScriptTellsOf old (Ok (command.Put t x r)) (reply.Put answer) calls = calls ≡ Put t x r answer ∷ []
+ScriptTellsOf old (Ok (command.Claim t x)) (reply.Claim answer) calls = calls ≡ Claim t x answer ∷ []
+ScriptTellsOf old (Ok (command.Del t x)) (reply.Del answer) calls = calls ≡ Remove t x answer ∷ []
+ScriptTellsOf old (Ok (command.Get t x)) (reply.Get answer) calls = calls ≡ Get t x answer ∷ []
+ScriptTellsOf old (Ok (command.Save t)) (reply.Save answer) calls = calls ≡ Savepoint t answer ∷ []
+ScriptTellsOf old (Ok (command.Release t n)) (reply.Release answer) calls = calls ≡ Release t n answer ∷ []
+ScriptTellsOf old (Ok (command.Back t n)) (reply.Back answer) calls = calls ≡ RollbackTo t n answer ∷ []
+ScriptTellsOf old (Ok (command.Resume t)) (reply.Resume answer) calls = calls ≡ Resume t answer ∷ []
+ScriptTellsOf old (Ok (command.Abort t)) (reply.Abort answer) calls = calls ≡ Abort t answer ∷ []
+ScriptTellsOf old (Ok (command.Commit t)) (reply.Commit answer) calls = calls ≡ Commit t answer ∷ []
+ScriptTellsOf old (Ok command.List) (reply.List answer) calls = calls ≡ Entries answer ∷ []
+ScriptTellsOf old (Ok (command.From k n)) (reply.List answer) calls = TellsFirst After (gaps.Before k) n answer calls
+ScriptTellsOf old (Ok (command.Upto k n)) (reply.List answer) calls = TellsFirst Before (gaps.Behind k) n answer calls
+ScriptTellsOf old (Ok (command.Committed k)) (reply.Committed answer) calls = calls ≡ CommittedAt k answer ∷ []
+ScriptTellsOf old (Ok (command.Keys t)) (reply.Keys answer) calls = calls ≡ KeysOf t answer ∷ []
+ScriptTellsOf old (Ok command.Log) (reply.Log len used) calls = calls ≡ LogLen len ∷ LogUse used ∷ []
+ScriptTellsOf old (Ok (command.Commit t)) (reply.Unkept fault) calls = IsTrue old.logged × (calls ≡ []) × (tx_refusal old.file t.0 None ≡ None)
+ScriptTellsOf old entry answer calls = ⊥
 
 -- where commits are kept before they are answered; and else nothing is
 abbrev pub AddsIf : Bool → List (List (List ℕ)) → List (List ℕ × Option (List ℕ)) → List (List (List ℕ)) → Type 0
@@ -65,10 +73,6 @@ abbrev pub TellsKept : Seen → Read Command → Reply → Seen → Type 0
 TellsKept old (Ok (command.Commit t)) (reply.Commit (Ok done)) new =
     IsTrue old.sound → AddsIf old.logged old.commits (writes (own t.0 old.file.history)) new.commits
 TellsKept old entry answer new = Unit {0}
-
--- a text of a log that makes these writes in a transaction of some number and commits it, and is read so
-abbrev pub SaysWrites : List (List ℕ × Option (List ℕ)) → List ℕ → Type 0
-SaysWrites es text = (n : ℕ) × (text ≡ unit_text (unit_lines n es)) × IsUnit (unit_lines n es) × (entries_in (unit_lines n es) ≡ unit_commands n es)
 
 -- A commit that would be accepted, and whose keeping is answered as in doubt, is the one in doubt from then on, unless another
 -- is already. No other reply changes which one that is.
@@ -85,7 +89,7 @@ is_accepted entry answer = false
 -- From old, the command, or the line that can't be read, has this reply by a run of these calls, which leads to new.
 pub record HasReply (old : Seen) (entry : Read Command) (answer : Reply) (new : Seen) : Type 0 where
   pub events : List Event
-  pub told : ScriptTellsOf old.logged entry answer (map (λ e. e.called) events)
+  pub told : ScriptTellsOf old entry answer (map (λ e. e.called) events)
   pub kept : TellsKept old entry answer new
   pub doubt : TellsDoubt old entry answer new
   pub alone : is_accepted entry answer ≡ false → list_any (λ e. is_commit e.called) events ≡ false
@@ -113,16 +117,6 @@ commit_reply (Err keep_faults.Memory) = reply.Unkept unkept.Memory
 commit_reply (Err (keep_faults.Unkept keeper_faults.Memory)) = reply.Unkept unkept.Memory
 commit_reply (Err (keep_faults.Unkept keeper_faults.Room)) = reply.Unkept unkept.Device
 commit_reply (Err (keep_faults.Unkept keeper_faults.Doubt)) = reply.Unkept unkept.Doubt
-
--- What is kept of a commit is a script that makes its writes, where any are; at a fault nothing more is.
-abbrev pub TellsWritesOf : Bool → List (List (List ℕ)) → List (List ℕ × Option (List ℕ)) → Result (Unit {0}) KeeperFault → List (List (List ℕ)) → Type 0
-TellsWritesOf sound old es (Ok done) new = IsTrue sound → AddsWrites old es new
-TellsWritesOf sound old es (Err fault) new = IsTrue sound → new ≡ old
-
--- What is in doubt stays so; and only where the keeper answers Doubt it may be a script that makes these writes.
-abbrev pub DoubtsWrites : List ℕ → List (List ℕ × Option (List ℕ)) → Result (Unit {0}) KeeperFault → List ℕ → Type 0
-DoubtsWrites old es (Err keeper_faults.Doubt) new = (new ≡ old) ⊎ SaysWrites es new
-DoubtsWrites old es answer new = new ≡ old
 
 -- beside a table
 abbrev pub TellsWrites : {T : Type 0} → Ghosts T → T → List (List ℕ × Option (List ℕ)) → Result (Unit {0}) KeeperFault → T → Type 0

@@ -6,8 +6,8 @@ use Rattle.command_text.specs.Units.{Write}
 use Rattle.record_file.specs.Durable.{CommitsKept}
 use Rattle.record_file.specs.Runs.{Event, Run, Seen, undoubted}
 use Rattle.record_file.specs.Steps.{tx_refusal}
-use Rattle.recfile.specs.Overlaid.{SayWrites, writes_in_turn}
-use Rattle.recfile.specs.Run.{SaysWrites}
+use Rattle.file_session.specs.Overlaid.{SayWrites, writes_in_turn}
+use Rattle.file_session.specs.LogKeeping.{SaysWrites}
 
 -- What is in doubt is what a commit had to keep: on the way from one to the other calls led to a file at which the commit of a transaction would be accepted, and that writes this.
 pub record IsInDoubt (old new : Seen) (es : List Write) : Type 0 where

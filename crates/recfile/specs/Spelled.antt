@@ -14,7 +14,7 @@ use Rattle.recfile.specs.Dumped.{AreSaidIn}
 use Rattle.recfile.specs.declared.dump.DumpFault.{DumpFault}
 use Rattle.recfile.specs.declared.dump.DumpFault.TheVariants.{File, Write}
 use Rattle.recfile.specs.declared.dump_text.DumpText.{DumpText}
-use Rattle.recfile.specs.declared.file_fault.FileFault.TheVariants.{Memory}
+use Rattle.file_session.specs.declared.file_fault.FileFault.TheVariants.{Memory}
 
 -- what stands before the lines of the records, these lines, and what stands behind them
 abbrev pub head_in : Option Form → List ℕ

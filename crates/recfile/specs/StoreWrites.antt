@@ -6,8 +6,8 @@ use Rattle.page_store.specs.declared.store_state.StoreState.{Ghosts}
 use Rattle.btree_delete.specs.Closing.{closing}
 use Rattle.btree_delete.specs.Created.{IsCreated}
 use Rattle.btree_delete.specs.TableView.{TableView}
-use Rattle.recfile.specs.declared.file_fault.FileFault.{FileFault}
-use Rattle.recfile.specs.declared.file_fault.FileFault.TheVariants.{BadOrder, Memory}
+use Rattle.file_session.specs.declared.file_fault.FileFault.{FileFault}
+use Rattle.file_session.specs.declared.file_fault.FileFault.TheVariants.{BadOrder, Memory}
 
 -- A table was closed, and its store asked for nothing else: its writing back is noted, whole where no fault stopped that,
 -- and else a front of it, which is empty where memory was short.

@@ -23,7 +23,7 @@ use Rattle.recfile.specs.WholeSession.{RunsFile}
 use Rattle.recfile.specs.declared.copying.CopyingFault.{CopyingFault}
 use Rattle.recfile.specs.declared.dump.DumpFault.{DumpFault}
 use Rattle.recfile.specs.declared.dump.DumpFault.TheVariants.{File, Write}
-use Rattle.recfile.specs.declared.file_fault.FileFault.{FileFault}
+use Rattle.file_session.specs.declared.file_fault.FileFault.{FileFault}
 use Rattle.recfile.specs.declared.page_file.TreeCounts.{TreeCounts}
 use Rattle.recfile.specs.declared.manner.Feed.TheVariants.{Lines}
 use Rattle.recfile.specs.declared.manner.Manner.{Manner}

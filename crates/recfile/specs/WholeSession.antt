@@ -10,13 +10,13 @@ use Rattle.btree_delete.specs.TableView.{TableView}
 use Rattle.record_file.specs.Abstract.{new_file, open_of}
 use Rattle.record_file.specs.Runs.{Seen}
 use Rattle.recfile.specs.Ending.{EndingAsks, EndsAll, StopsEnding, end_cause, rest_of}
-use Rattle.recfile.specs.Dumped.{IsOutsideFile}
+use Rattle.file_session.specs.Opened.{IsOutsideFile}
 use Rattle.recfile.specs.Run.{Ran}
 use Rattle.recfile.specs.Shell.{RanLines}
 use Rattle.recfile.specs.Statuses.{exit_status_of}
 use Rattle.recfile.specs.Streams.{CallsMade, TellsFailed, run_read_fault, run_write_fault}
 use Rattle.recfile.specs.declared.endings.EndFault.{EndFault}
-use Rattle.recfile.specs.declared.file_fault.FileFault.{FileFault}
+use Rattle.file_session.specs.declared.file_fault.FileFault.{FileFault}
 use Rattle.recfile.specs.declared.manner.Feed.{Feed}
 use Rattle.recfile.specs.declared.manner.Feed.TheVariants.{Lines, Script}
 use Rattle.recfile.specs.declared.manner.Manner.{Manner}

@@ -1,16 +1,20 @@
-ghost use Rattle.std.specs.Prelude.{◌≡◌, Ok, Err, if◌then◌else◌};
+ghost use Rattle.std.specs.Prelude.{◌≡◌, [], List, Result, Ok, Err, if◌then◌else◌};
 ghost use Rattle.std.specs.String.{string_bytes};
 ghost use Rattle.command_text.specs.declared.command.Command.TheVariants as commands;
 ghost use Rattle.command_text.specs.declared.reply.Reply.{Reply};
 ghost use Rattle.command_text.specs.declared.reply.Reply.TheVariants as replies;
+ghost use Rattle.recfile.specs.ListEnd.{EndsList};
 ghost use Rattle.recfile.specs.Run.{CommandRan, CommandTold, HasReply, LineTold, SameOrigin, ToldReply, commit_reply, says_command};
-ghost use Rattle.record_file.specs.Runs.{seen_as};
+ghost use Rattle.rec_types.specs.declared.transaction.Entry.{Entry as EntryValue};
+ghost use Rattle.record_file.specs.AtMost.{limited_to};
+ghost use Rattle.record_file.specs.Runs.{Made, EntriesBeside, seen_as};
+ghost use Rattle.record_file.specs.declared.fault.EntriesFault.{EntriesFault as EntriesFaultValue};
 
 use crate::commit_keeper::CommitKeeper;
 use crate::list_text::ListText;
 use command_text::{Command, KeyList, LineFault, Reply, Unkept, append_reply, push_list_end};
-use rec_types::{Key, Memory, Record, Table, TxId};
-use record_file::{KeepFault, KeeperFault, RecordFile};
+use rec_types::{Gap, Key, Memory, Record, Side, Table, TxId};
+use record_file::{AtMost, EntriesFault, KeepFault, KeeperFault, RecordFile, SinkStop};
 use std::mem::replace;
 
 // Puts the text of a reply in the place of what a text has, and answers whether it is a refusal. Fault: Memory.
@@ -157,22 +161,29 @@ fn commit<T: Table, K: CommitKeeper<T>>(
     tell(text, &reply_of(file.commit_kept(tx, keeper)))
 }
 
-fn list<T: Table>(text: &mut String, file: &mut RecordFile<T>) -> Result<bool, Memory>
-    ensures { CommandTold T.TableState (SameOrigin T.TableState) file.old (Ok commands.List) result
-        (string_bytes text.new) file.new }
+// Takes a text for the lines of a list, in place of what it has.
+fn begin_list(text: &mut String) -> ListText
+    ensures empty { string_bytes result.text ≡ [] }
+    ensures none { result.count ≡ 0 }
 {
     let alloc = *text.allocator();
     text.clear();
-    let mut list = ListText {
+    ListText {
         text: replace(text, String::new(alloc)),
         count: 0,
-    };
-    let told = file.tell(&mut list);
-    let ListText {
-        text: spelled,
-        count,
-    } = list;
-    *text = spelled;
+    }
+}
+
+// Puts the text of a list, and how many lines it has, in the place of what a text has; or why there is no list. Fault: Memory.
+fn end_list(
+    text: &mut String,
+    list: ListText,
+    told: Result<Result<(), Memory>, EntriesFault>,
+) -> Result<bool, Memory>
+    ensures { EndsList list told result (string_bytes text.new) }
+{
+    let ListText { text: lines, count } = list;
+    *text = lines;
     match told {
         Ok(taken) => {
             taken?;
@@ -181,6 +192,70 @@ fn list<T: Table>(text: &mut String, file: &mut RecordFile<T>) -> Result<bool, M
         }
         Err(fault) => tell(text, &Reply::List(Err(fault))),
     }
+}
+
+fn list<T: Table>(text: &mut String, file: &mut RecordFile<T>) -> Result<bool, Memory>
+    ensures { CommandTold T.TableState (SameOrigin T.TableState) file.old (Ok commands.List) result
+        (string_bytes text.new) file.new }
+{
+    let mut list = begin_list(text);
+    let told = file.tell(&mut list);
+    end_list(text, list, told)
+}
+
+// So many of the records on a side of a gap, the nearest first.
+fn list_beside<T: Table>(
+    text: &mut String,
+    file: &mut RecordFile<T>,
+    side: Side,
+    gap: &Gap,
+    n: u32,
+) -> Result<bool, Memory>
+    ensures { (all : Result (List EntryValue) EntriesFaultValue)
+        × Made T.TableState file.old (EntriesBeside side gap.now all) file.new
+        × ToldReply (replies.List (limited_to n all)) result (string_bytes text.new) }
+{
+    let mut first = AtMost {
+        sink: begin_list(text),
+        left: n,
+    };
+    let told = file.tell_beside(side, gap, &mut first);
+    end_list(text, first.sink, SinkStop::unless_enough(told))
+}
+
+fn from<T: Table>(
+    text: &mut String,
+    file: &mut RecordFile<T>,
+    key: Key,
+    n: u32,
+) -> Result<bool, Memory>
+    ensures { CommandTold T.TableState (SameOrigin T.TableState) file.old (Ok (commands.From key n)) result
+        (string_bytes text.new) file.new }
+{
+    list_beside(text, file, Side::After, &Gap::Before(key), n)
+}
+
+fn upto<T: Table>(
+    text: &mut String,
+    file: &mut RecordFile<T>,
+    key: Key,
+    n: u32,
+) -> Result<bool, Memory>
+    ensures { CommandTold T.TableState (SameOrigin T.TableState) file.old (Ok (commands.Upto key n)) result
+        (string_bytes text.new) file.new }
+{
+    list_beside(text, file, Side::Before, &Gap::Behind(key), n)
+}
+
+fn committed<T: Table>(
+    text: &mut String,
+    file: &mut RecordFile<T>,
+    key: &Key,
+) -> Result<bool, Memory>
+    ensures { CommandTold T.TableState (SameOrigin T.TableState) file.old (Ok (commands.Committed key.now)) result
+        (string_bytes text.new) file.new }
+{
+    tell(text, &Reply::Committed(file.committed(key)))
 }
 
 fn keys<T: Table>(text: &mut String, file: &mut RecordFile<T>, tx: TxId) -> Result<bool, Memory>
@@ -220,6 +295,9 @@ fn call<T: Table, K: CommitKeeper<T>>(
         Command::Abort(tx) => return abort(text, file, *tx),
         Command::Commit(tx) => return commit(text, file, keeper, *tx),
         Command::List => return list(text, file),
+        Command::From(key, n) => return from(text, file, *key, *n),
+        Command::Upto(key, n) => return upto(text, file, *key, *n),
+        Command::Committed(key) => return committed(text, file, key),
         Command::Keys(tx) => return keys(text, file, *tx),
         Command::Log => return log(text, file),
     }

@@ -1,11 +1,11 @@
 ghost use Rattle.std.specs.Prelude.{ℕ, IsTrue, IsOk, IfOk, IfErr, OnOk};
 ghost use Rattle.page_store.specs.StoreCalls.{StaysStore};
-ghost use Rattle.recfile.specs.Dumped.{CanBeOpened, IsFirstOrOutside};
+ghost use Rattle.file_session.specs.Opened.{CanBeOpened, IsFirstOrOutside};
 ghost use Rattle.recfile.specs.FilesAt.{IsCopyOf, IsCopyingFault, IsOfCopying};
 
-use crate::file_fault::FileFault;
 use crate::page_files::PageFiles;
 use btree_delete::TreeTable;
+use file_session::FileFault;
 use page_copy::{CopyFault, copy_pages};
 use page_store::Store;
 use rec_types::Limits;

@@ -7,15 +7,16 @@ ghost use Rattle.page_store.specs.StoreCalls.{StaysStore};
 ghost use Rattle.btree_insert.specs.declared.tree.Tree.{Tree as TreeValue};
 ghost use Rattle.btree_delete.specs.TableView.{IsClosed, table_contents};
 ghost use Rattle.command_text.specs.Dump.{dump_text};
-ghost use Rattle.recfile.specs.Dumped.{CanBeOpened, IsDumpFault, IsSilent, IsSilentInside, Dumps, DumpStops, ReadingStops, is_device_dump, text_in};
+ghost use Rattle.file_session.specs.Opened.{CanBeOpened};
+ghost use Rattle.recfile.specs.Dumped.{IsDumpFault, IsSilent, IsSilentInside, Dumps, DumpStops, ReadingStops, is_device_dump, text_in};
 ghost use Rattle.recfile.specs.Tasks.{IsDump, IsSaved, Writes, WritesListed};
 
 use crate::dump_text::DumpText;
-use crate::file_fault::FileFault;
 use crate::script::write_text;
 use btree_delete::TreeTable;
 use btree_node::Header;
 use command_text::write_dump;
+use file_session::FileFault;
 use page_rescue::{RescueFault, rescue_pages};
 use page_store::Store;
 use rec_types::{Key, Limits, Memory, Record, Table};
@@ -47,7 +48,7 @@ impl From<FileFault> for DumpFault {
 impl From<AllocError> for DumpFault {
     ghost use Rattle.std.specs.Prelude.{◌≡◌};
     ghost use Rattle.recfile.specs.declared.dump.DumpFault.TheVariants.{File};
-    ghost use Rattle.recfile.specs.declared.file_fault.FileFault.TheVariants.{Memory};
+    ghost use Rattle.file_session.specs.declared.file_fault.FileFault.TheVariants.{Memory};
 
     ghost from_gives = { λ _ named. named ≡ File Memory };
 
@@ -59,7 +60,7 @@ impl From<AllocError> for DumpFault {
 impl From<Memory> for DumpFault {
     ghost use Rattle.std.specs.Prelude.{◌≡◌};
     ghost use Rattle.recfile.specs.declared.dump.DumpFault.TheVariants.{File};
-    ghost use Rattle.recfile.specs.declared.file_fault.FileFault.TheVariants.{Memory};
+    ghost use Rattle.file_session.specs.declared.file_fault.FileFault.TheVariants.{Memory};
 
     ghost from_gives = { λ _ named. named ≡ File Memory };
 

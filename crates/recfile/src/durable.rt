@@ -1,31 +1,29 @@
 ghost use Rattle.std.specs.Result.{is_err};
-ghost use Rattle.std.specs.Prelude.{◌≡◌, ◌≢◌, ◌≤◌, ◌&&◌, not, ◌∷◌, [], ℕ, Bool, None, Some, true, false, is_some, IsTrue, IsSome, IfOk, IfErr, IfSome, MatchOption};
+ghost use Rattle.std.specs.Prelude.{◌≡◌, ◌&&◌, not, ◌∷◌, [], ℕ, None, true, false, is_some, IsTrue, IfSome, MatchOption};
 ghost use Rattle.rec_types.specs.Contents.{Contents};
-ghost use Rattle.rec_types.specs.Table.{counted};
 ghost use Rattle.btree_delete.specs.TableView.{table_contents};
 ghost use Rattle.page_journal.specs.Files.{Files, recovered};
-ghost use Rattle.recfile.specs.Beside.{IsHeadFault, IsSettledWith, LeavesEnded, LeavesOpening, LosesNone};
-ghost use Rattle.recfile.specs.Dumped.{CanBeOpened, IsFirstOrOutside, IsOutsideFile};
-ghost use Rattle.recfile.specs.DurableSession.{EndsDurably, IsBegunBeside, LeavesUnbegun, LeavesUnread, RunsLogged, StandForClosed, StandsUnbegun};
-ghost use Rattle.recfile.specs.FileFaults.{is_file_device};
-ghost use Rattle.recfile.specs.Kept.{CountsClosing, IsOutsideDisk, IsUnopened, LeavesOld, opening_file};
-ghost use Rattle.recfile.specs.LogOver.{HoldsWithin, head_line};
-ghost use Rattle.recfile.specs.Settling.{IsJustSettled};
+ghost use Rattle.file_session.specs.Beside.{IsSettledWith, LeavesEnded, LosesNone};
+ghost use Rattle.file_session.specs.Opened.{CanBeOpened, IsFirstOrOutside, IsOutsideFile};
+ghost use Rattle.recfile.specs.DurableSession.{EndsDurably, RunsLogged};
+ghost use Rattle.file_session.specs.Beginning.{IsBegunBeside, LeavesUnread, StandForClosed, StandsUnbegun};
+ghost use Rattle.file_session.specs.FileFaults.{is_file_device};
+ghost use Rattle.file_session.specs.Closing.{CountsClosing, IsOutsideDisk, IsUnopened, LeavesOld, opening_file};
+ghost use Rattle.file_session.specs.LogOver.{HoldsWithin, head_line};
+ghost use Rattle.file_session.specs.Settling.{IsJustSettled};
 ghost use Rattle.recfile.specs.Statuses.{exit_status_of};
 ghost use Rattle.recfile.specs.WholeSession.{IsUncounted, is_flush};
 
-use crate::file_fault::FileFault;
-use crate::kept_file::{DiskEnd, give_back, unopened};
-use crate::log_head::head_of;
-use crate::log_keeper::LogKeeper;
+use crate::commit_keeper::CommitKeeper;
+use crate::kept_file::{DiskEnd, unopened};
 use crate::manner::Manner;
 use crate::script::RunFault;
 use crate::session::{is_flush, run_session};
-use crate::settling::{close_beside, end_beside};
 use crate::statuses::exit_status;
 use crate::streams::{CountedRead, CountedWrite, StreamCalls};
 use crate::tell::tell_fault_of;
 use btree_delete::TreeTable;
+use file_session::{FileFault, LogKeeper, begin_beside, close_beside, end_unread, give_back};
 use page_journal::{Disk, KeptStore, SealState};
 use page_store::StoreState;
 use rec_types::{Limits, Table};
@@ -33,6 +31,10 @@ use record_file::RecordFile;
 use std::alloc::Global;
 use std::io::Write;
 use std::sync::ledger::Ledger;
+
+impl<D: Disk + Drop> CommitKeeper<TreeTable<KeptStore<D>>> for LogKeeper {
+    ghost tells = { λ keeper old new es answer answered keeps. answered };
+}
 
 // Closes the file of a table, takes the log beside it away, and answers the end of the session. A fault has its line.
 fn close_logged<D: Disk + Drop, E: Write>(
@@ -120,68 +122,6 @@ fn run_logged<L: Ledger, D: Disk + Drop, R: CountedRead<L>, W: CountedWrite<L>, 
             unopened: None,
             unclosed: None,
         },
-    }
-}
-
-// The disk of a store whose file isn't opened, beside which a log was begun: it is taken away.
-fn end_unread<D: Disk + Drop>(store: KeptStore<D>) -> D
-    ensures left { IsTrue (D.steady store.disk) → (c : Files) → D.left_since result 0 c
-        → LeavesUnread (⟦<KeptStore<D> as StoreState>⟧.opening store) c }
-    ensures steady { D.steady result ≡ D.steady store.disk }
-    ensures failures { store.state ≢ SealState.Sealed → (again : Bool)
-        × (D.failures result ≡ counted (D.failures store.disk) again) }
-{
-    let (disk, _put_back) = store.take_back();
-    let (disk, _done) = end_beside(disk);
-    disk
-}
-
-// The disk of a store beside which no log was begun, and the fault.
-fn unbegun<D: Disk + Drop>(store: KeptStore<D>, fault: FileFault) -> (D, FileFault)
-    ensures old { IsTrue (D.steady store.disk) → (c : Files) → D.left_since result.0 0 c
-        → LeavesOpening (⟦<KeptStore<D> as StoreState>⟧.opening store) c }
-    ensures fault { result.1 ≡ fault }
-    ensures same { store.state ≢ SealState.Sealed → result.0 ≡ store.disk }
-{
-    let (disk, _put_back) = store.take_back();
-    (disk, fault)
-}
-
-// The store, with a log of commits begun beside it in which no commit is. Faults: Device, Memory; the disk comes back.
-fn begin_beside<D: Disk + Drop>(
-    alloc: Global,
-    store: KeptStore<D>,
-) -> Result<KeptStore<D>, (D, FileFault)>
-    requires none { IsTrue (D.steady store.disk) → (D.began store.disk).commits.log ≡ None }
-    requires file { IsTrue (D.steady store.disk)
-        → (D.seen store.disk).main ≡ recovered (D.began store.disk) }
-    requires unused { (store.state ≡ SealState.Unsealed) × (store.refusals ≡ 0) × (store.log ≡ None) × (store.doubt ≡ []) }
-    ensures begun { IsTrue (D.steady store.disk)
-        → IfOk result (λ s. IsBegunBeside (⟦<KeptStore<D> as StoreState>⟧.opening s)) }
-    ensures opening { IfOk result (λ s. opening_file (⟦<KeptStore<D> as StoreState>⟧.opening s)
-        ≡ recovered (D.began store.disk)) }
-    ensures stored { IfOk result (λ s. (D.steady s.disk ≡ D.steady store.disk)
-        × (s.state ≡ SealState.Unsealed) × (s.refusals ≡ 0)
-        × ((D.seen s.disk).main ≡ (D.seen store.disk).main)
-        × (D.failures s.disk ≡ D.failures store.disk)) }
-    ensures stopped { IsTrue (D.steady store.disk) → IfErr result (λ stop. (c : Files)
-        → D.left_since stop.0 0 c → LeavesUnbegun (D.began store.disk) c) }
-    ensures fault { IsTrue (D.steady store.disk) → IfErr result (λ stop. IsHeadFault
-        (recovered (D.began store.disk)).pages (recovered (D.began store.disk)).tail stop.1) }
-    ensures device { IfErr result (λ stop. D.failures stop.0
-        ≡ counted (D.failures store.disk) (is_file_device stop.1)) }
-{
-    let mut store = store;
-    let mut head = match head_of(alloc, &mut store) {
-        Ok(head) => head,
-        Err(fault) => return Err(unbegun(store, fault)),
-    };
-    let Ok(()) = head.push(b'\n') else {
-        return Err(unbegun(store, FileFault::Memory));
-    };
-    match store.begin_commits(&head) {
-        Ok(store) => Ok(store),
-        Err((disk, fault)) => Err((disk, FileFault::from(fault))),
     }
 }
 

@@ -8,18 +8,19 @@ ghost use Rattle.btree_node.specs.Layout.{IsOrder};
 ghost use Rattle.btree_node.specs.Lists.{Ascends};
 ghost use Rattle.btree_insert.specs.Sizes.{greatest_size};
 ghost use Rattle.btree_load.specs.Trees.{IsFilled};
-ghost use Rattle.recfile.specs.Dumped.{IsOutsideFile};
-ghost use Rattle.recfile.specs.FileFaults.{file_by_device, is_device_answer};
+ghost use Rattle.file_session.specs.Opened.{IsOutsideFile};
+ghost use Rattle.file_session.specs.FileFaults.{file_by_device, is_device_answer};
 ghost use Rattle.recfile.specs.Filling.{FillsDisk, IsBlankFile, loaded};
 ghost use Rattle.recfile.specs.Statuses.{exit_status_of};
-ghost use Rattle.recfile.specs.Kept.{ClosesSafely, CountsClosing, IsKeptWith, LeavesAs, LeavesEither, LeavesOld, opening_file, is_sealed, refused_calls};
+ghost use Rattle.recfile.specs.Kept.{ClosesSafely};
+ghost use Rattle.file_session.specs.Closing.{CountsClosing, IsKeptWith, LeavesAs, LeavesEither, LeavesOld, opening_file, is_sealed, refused_calls};
 
-use crate::file_fault::FileFault;
-use crate::kept_file::{DiskEnd, told};
+use crate::kept_file::DiskEnd;
 use crate::statuses::exit_status;
 use crate::tell::tell_fault_of;
 use btree_delete::TreeTable;
 use btree_load::fill;
+use file_session::{FileFault, told};
 use page_journal::{Disk, KeptStore, SealState};
 use page_store::{SealStore, Shape, Store};
 use rec_types::{Key, Limits, Record};
@@ -157,7 +158,7 @@ pub fn fill_blank<D: Disk + Drop, E: Write>(
     err: &mut E,
 ) -> Result<DiskEnd<D>, D>
     requires rest { IsAtRest D.DiskState disk }
-    requires began { IsTrue (D.steady disk) → D.seen disk ≡ D.began disk }
+    requires began { D.seen disk ≡ D.began disk }
     requires moment { D.moment disk ≡ 0 }
     requires records { Ascends records.now × (length records.now ≤ greatest_size) }
     ensures filled { IfOk result

@@ -1,16 +1,16 @@
 ghost use Rattle.std.specs.Prelude.{ℕ, List, Option, IfErr, IfOk, IsTrue};
 ghost use Rattle.page_journal.specs.Crash.{IsAtRest};
 ghost use Rattle.recfile.specs.Flushing.{BeginsNext, BeginsNone, InARow};
-ghost use Rattle.recfile.specs.Settling.{IsJustSettled};
+ghost use Rattle.file_session.specs.Settling.{IsJustSettled};
 
 use crate::durable::run_durable;
-use crate::file_fault::FileFault;
 use crate::kept_file::{DiskEnd, unopened};
 use crate::manner::Manner;
 use crate::script::{ScriptFault, send_text};
 use crate::statuses::exit_status;
 use crate::streams::{CountedRead, CountedWrite, StreamCalls};
 use crate::tell::tell;
+use file_session::FileFault;
 use page_journal::Disk;
 use rec_types::Limits;
 use std::alloc::Global;

@@ -2,16 +2,17 @@ ghost use Rattle.std.specs.Prelude.{◌≡◌, ◌∷◌, [], None, IfOk, MatchO
 ghost use Rattle.std.specs.FinMap as maps;
 ghost use Rattle.page_journal.specs.Files.{Files, recovered};
 ghost use Rattle.recfile.specs.DurableSession.{EndsDurably};
-ghost use Rattle.recfile.specs.Kept.{ClosesSafely, HasRecords, IsOutsideDisk};
-ghost use Rattle.recfile.specs.LogOver.{head_line};
+ghost use Rattle.recfile.specs.Kept.{ClosesSafely};
+ghost use Rattle.file_session.specs.Closing.{HasRecords, IsOutsideDisk};
+ghost use Rattle.file_session.specs.LogOver.{head_line};
 ghost use Rattle.recfile.specs.WholeSession.{EndsFile, opened_file};
 
 use crate::durable::run_durable;
-use crate::file_fault::FileFault;
 use crate::kept_file::{DiskEnd, run_kept};
 use crate::manner::Manner;
 use crate::page_file::create_in;
 use crate::streams::{CountedRead, CountedWrite, StreamCalls};
+use file_session::FileFault;
 use page_journal::{DiskState, MemDisk};
 use page_store::MemStore;
 use rec_types::Limits;

@@ -1,28 +1,27 @@
-ghost use Rattle.std.specs.Prelude.{◌≡◌, ◌≤◌, ℕ, Bool, true, false, is_some, IsTrue, IfErr, IfSome, OnOk, MatchOption, None, Some, if◌then◌else◌};
+ghost use Rattle.std.specs.Prelude.{◌≡◌, ◌≤◌, ℕ, true, false, is_some, IsTrue, IfSome, MatchOption, None, Some};
 ghost use Rattle.rec_types.specs.Contents.{Contents};
 ghost use Rattle.std.specs.Result.{is_err};
 ghost use Rattle.rec_types.specs.Table.{counted};
 ghost use Rattle.page_store.specs.Guards.{Unsealed};
 ghost use Rattle.btree_insert.specs.declared.tree.Tree.{Tree as TreeValue};
 ghost use Rattle.btree_delete.specs.TableView.{IsClosed, table_contents};
-ghost use Rattle.page_journal.specs.Files.{Belongs, Files, recovered};
+ghost use Rattle.page_journal.specs.Files.{Belongs, recovered};
 ghost use Rattle.page_journal.specs.Crash.{IsAtRest};
-ghost use Rattle.recfile.specs.Beside.{FindsEach, HoldsWhole, LeavesEitherBeside, LeavesOpening};
-ghost use Rattle.recfile.specs.Dumped.{CanBeOpened, IsFirstOrOutside, IsOutsideFile};
-ghost use Rattle.recfile.specs.FileFaults.{answer_of_store, file_by_device, is_file_device, is_device_answer};
-ghost use Rattle.recfile.specs.Kept.{CountsClosing, RunsOn, is_sealed, refused_calls, opening_file, LeavesAs, LeavesOld, LeavesEither, IsKeptWith, ClosesSafely, IsOutsideDisk, IsUnopened};
+ghost use Rattle.file_session.specs.Opened.{CanBeOpened, IsFirstOrOutside, IsOutsideFile};
+ghost use Rattle.file_session.specs.FileFaults.{file_by_device, is_file_device};
+ghost use Rattle.file_session.specs.Closing.{CountsClosing, opening_file, LeavesAs, LeavesOld, IsOutsideDisk, IsUnopened};
+ghost use Rattle.recfile.specs.Kept.{RunsOn, ClosesSafely};
 ghost use Rattle.recfile.specs.Statuses.{exit_status_of};
 ghost use Rattle.recfile.specs.WholeSession.{EndsFile, IsUncounted, RunsAny, opened_file};
 
-use crate::file_fault::FileFault;
 use crate::manner::Manner;
 use crate::session::run_session;
 use crate::statuses::exit_status;
 use crate::streams::{CountedRead, CountedWrite, StreamCalls};
 use crate::tell::{tell, tell_fault_of};
 use btree_delete::TreeTable;
+use file_session::{FileFault, close_table, give_back};
 use page_journal::{Disk, KeptStore, SealState};
-use page_store::StoreFault;
 use rec_types::Limits;
 use record_file::{RecordFile, Unlogged};
 use std::alloc::Global;
@@ -38,72 +37,6 @@ pub struct DiskEnd<D: Disk + Drop> {
     pub flushed: bool,
     pub unopened: Option<FileFault>,
     pub unclosed: Option<FileFault>,
-}
-
-// The disk of a table that isn't closed, with the old file put back. Where that fails the side file stays, and the next
-// opening puts it back.
-pub(crate) fn give_back<D: Disk + Drop>(table: TreeTable<KeptStore<D>>) -> D
-    ensures old { IsTrue table.pages.steady → LeavesOld D.DiskState (opening_file table.pages.opening) result }
-    ensures commits { IsTrue table.pages.steady → (c : Files) → D.left_since result 0 c
-        → LeavesOpening table.pages.opening c }
-    ensures lasts { IsTrue table.pages.steady → (c : Files) → D.may_leave result c
-        → FindsEach table.pages.opening.logged table.pages.opening.log table.pages.opening.commits
-        table.pages.opening.doubt c }
-    ensures steady { D.steady result ≡ table.pages.steady }
-    ensures device { refused_calls table.pages.guard ≡ 0 → (again : Bool)
-        × (D.failures result ≡ counted table.pages.failures again)
-        × (is_sealed table.pages.guard ≡ false → again ≡ false) }
-{
-    let (disk, _put_back) = table.abandon().take_back();
-    disk
-}
-
-// The answer of a closing, by that of its store.
-pub(crate) fn told(done: Result<(), StoreFault>) -> Result<(), FileFault>
-    ensures { result ≡ answer_of_store done }
-{
-    match done {
-        Ok(()) => Ok(()),
-        Err(fault) => Err(FileFault::from(fault)),
-    }
-}
-
-// Closes the file of a table: the pages that it writes over are kept aside, then it writes, then they are given up. At
-// `Ok` of a changed table three calls of any disk have succeeded by then.
-pub(crate) fn close_table<D: Disk + Drop>(
-    table: TreeTable<KeptStore<D>>,
-) -> (D, Result<(), FileFault>)
-    ensures any_moment { IsTrue table.pages.steady
-        → LeavesEither D.DiskState (opening_file table.pages.opening) table.tree.order (table_contents table)
-        result.0 }
-    ensures commits { IsTrue table.pages.steady → (c : Files) → D.left_since result.0 0 c
-        → LeavesEitherBeside table.pages.opening table.tree.order (table_contents table) c }
-    ensures whole { IsTrue table.pages.steady → OnOk result.1 (HoldsWhole D.DiskState
-        table.pages.opening table.tree.order (table_contents table) result.0) }
-    ensures lasts { IsTrue table.pages.steady → (c : Files) → D.may_leave result.0 c
-        → FindsEach table.pages.opening.logged table.pages.opening.log table.pages.opening.commits
-        table.pages.opening.doubt c }
-    ensures closed { IsTrue table.pages.steady
-        → OnOk result.1 (IsKeptWith D.DiskState table.tree.order (table_contents table) result.0) }
-    ensures fault { IfErr result.1 IsOutsideFile }
-    ensures steady { D.steady result.0 ≡ table.pages.steady }
-    ensures device { table.pages.guard ≡ Unsealed 0 → table.pages.tail ≡ 0
-        → CountsClosing table.pages.failures (is_err result.1) (is_device_answer result.1)
-        (D.failures result.0) }
-    ensures called { table.pages.guard ≡ Unsealed 0 → table.pages.tail ≡ 0
-        → table.pages.changed ≡ true → OnOk result.1 (3 ≤ D.moment result.0) }
-{
-    let mut table = table;
-    if let Err(fault) = table.seal() {
-        return (give_back(table), Err(FileFault::from(fault)));
-    }
-    match table.close() {
-        Ok(store) => {
-            let (disk, done) = store.finish();
-            (disk, told(done))
-        }
-        Err(stop) => (give_back(stop.table), Err(FileFault::from(stop.fault))),
-    }
 }
 
 // Closes the file of a table, and answers the end of the session. A fault has its line.
@@ -276,7 +209,7 @@ pub fn run_kept<L: Ledger, D: Disk + Drop, R: CountedRead<L>, W: CountedWrite<L>
     calls: &mut StreamCalls<L>,
 ) -> DiskEnd<D>
     requires rest { IsAtRest D.DiskState disk }
-    requires began { IsTrue (D.steady disk) → D.seen disk ≡ D.began disk }
+    requires began { D.seen disk ≡ D.began disk }
     requires moment { D.moment disk ≡ 0 }
     ensures unread { IfSome result.unopened (λ _. (result.status ≡ 1) × (result.unclosed ≡ None)
         × (reader.new ≡ reader.old) × (out.new ≡ out.old) × (calls.new ≡ calls.old)) }

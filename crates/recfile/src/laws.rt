@@ -5,10 +5,13 @@ ghost use Rattle.std.specs.List.{All, flat_map};
 ghost use Rattle.rec_types.specs.Contents.{Contents, set_to};
 ghost use Rattle.rec_types.specs.LimitBounds.{Bounds};
 ghost use Rattle.rec_types.specs.Table.{greatest_count};
+ghost use Rattle.rec_types.specs.declared.gap.Gap.TheVariants as gaps;
+ghost use Rattle.rec_types.specs.declared.side.Side.TheVariants.{After};
 ghost use Rattle.rec_types.specs.declared.transaction.TxId.{TxId};
 ghost use Rattle.record_file.specs.Abstract.{File, new_file, open_of};
 ghost use Rattle.record_file.specs.Durable.{overlay};
-ghost use Rattle.record_file.specs.Runs.{IsKeptSeen, Seen};
+ghost use Rattle.record_file.specs.Examples.{entries_at_a_and_b, owned_at_a};
+ghost use Rattle.record_file.specs.Runs.{EntriesBeside, IsKeptSeen, Seen};
 ghost use Rattle.page_store.specs.Journal.{Journal, noted_steps};
 ghost use Rattle.page_store.specs.declared.step.Step.TheVariants as steps;
 ghost use Rattle.page_journal.specs.Examples.{without_side_file, both_writes, old_file};
@@ -24,19 +27,21 @@ ghost use Rattle.command_text.specs.Refusals.{is_refusal};
 ghost use Rattle.command_text.specs.Script.{entries_in, commands_of};
 ghost use Rattle.command_text.specs.Units.{Write, unit_commands};
 ghost use Rattle.command_text.specs.declared.reply.Reply.{Reply};
+ghost use Rattle.command_text.specs.declared.reply.Reply.TheVariants as reply;
 ghost use Rattle.recfile.specs.DurableSession.{AreFirstCommits, EndsDurably};
 ghost use Rattle.record_texts.specs.declared.form.Form.TheVariants.{Tsv};
 ghost use Rattle.recfile.specs.Dumped.{ReadingStops};
 ghost use Rattle.recfile.specs.Ending.{EndsAll, without};
 ghost use Rattle.recfile.specs.Flushing.{BeginsNone, Flushes, InARow, SessionPoint, flush_reply};
 ghost use Rattle.recfile.specs.Examples.{four_changes, two_taken_back};
-ghost use Rattle.recfile.specs.Kept.{ClosesSafely, CountsClosing, HasRecords, IsKeptWith, LeavesEither};
-ghost use Rattle.recfile.specs.LogOver.{Finds, HoldsRecords, HoldsWithin, IsHead, IsLogOver};
-ghost use Rattle.recfile.specs.Overlaid.{IsLogCommand, SayWrites, writes_in_turn, writes_said};
+ghost use Rattle.recfile.specs.Kept.{ClosesSafely};
+ghost use Rattle.file_session.specs.Closing.{CountsClosing, HasRecords, IsKeptWith, LeavesEither};
+ghost use Rattle.file_session.specs.LogOver.{Finds, HoldsRecords, HoldsWithin, IsHead, IsLogOver};
+ghost use Rattle.file_session.specs.Overlaid.{IsLogCommand, SayWrites, writes_in_turn, writes_said};
 ghost use Rattle.recfile.specs.Room.{HasRoomFor, was_kept};
-ghost use Rattle.recfile.specs.Run.{Session};
+ghost use Rattle.recfile.specs.Run.{ScriptTellsOf, Session};
 ghost use Rattle.recfile.specs.SessionCommits.{IsInDoubt, MakesCommits, in_doubt};
-ghost use Rattle.recfile.specs.Settling.{FindsAny, PutsRight};
+ghost use Rattle.file_session.specs.Settling.{FindsAny, PutsRight};
 ghost use Rattle.recfile.specs.Shell.{StopsAtFlush};
 ghost use Rattle.recfile.specs.Spelled.{SpellsLines};
 ghost use Rattle.recfile.specs.StoreWrites.{WritesBack};
@@ -45,8 +50,8 @@ ghost use Rattle.recfile.specs.Tasks.{IsDump, WritesListed};
 ghost use Rattle.recfile.specs.WholeSession.{EndsFile, IsSession, RunsFile};
 ghost use Rattle.recfile.specs.declared.dump.DumpFault.TheVariants.{File as DumpFile};
 ghost use Rattle.recfile.specs.declared.endings.EndFault.{EndFault};
-ghost use Rattle.recfile.specs.declared.file_fault.FileFault.{FileFault};
-ghost use Rattle.recfile.specs.declared.file_fault.FileFault.TheVariants as faults;
+ghost use Rattle.file_session.specs.declared.file_fault.FileFault.{FileFault};
+ghost use Rattle.file_session.specs.declared.file_fault.FileFault.TheVariants as faults;
 ghost use Rattle.recfile.specs.declared.manner.Manner.{Manner};
 ghost use Rattle.recfile.specs.declared.script.RunFault.{RunFault};
 ghost use Rattle.recfile.specs.declared.script.RunFault.TheVariants.{Script};
@@ -175,6 +180,17 @@ pub fn sessions_by_example()
         (before after : CallsMade) (old : Seen) (status : ℕ) (unclosed : Option FileFault)
         → EndsFile manner left leaves held holds before after old (λ _. ⊥) unclosed status
         → status ≡ 4 }
+{}
+
+/// What `from` tells by example: the first of the entries at its key and above, of all that the call answered. Not what lies on the
+/// other side, which `upto` tells, and not without the call.
+pub fn ordered_reads_by_example()
+    ensures from { ScriptTellsOf false (Ok (command.From (97 ∷ []) 1)) (reply.List (Ok (owned_at_a ∷ [])))
+        (EntriesBeside After (gaps.Before (97 ∷ [])) (Ok entries_at_a_and_b) ∷ []) }
+    ensures other_side { ScriptTellsOf false (Ok (command.Upto (97 ∷ []) 1)) (reply.List (Ok (owned_at_a ∷ [])))
+        (EntriesBeside After (gaps.Before (97 ∷ [])) (Ok entries_at_a_and_b) ∷ []) → ⊥ }
+    ensures unasked { ScriptTellsOf false (Ok (command.From (97 ∷ []) 1))
+        (reply.List (Ok (owned_at_a ∷ []))) [] → ⊥ }
 {}
 
 /// After a session of status 0 no read and no write has failed. A ReadFault isn't answered where no read failed, nor Ok where

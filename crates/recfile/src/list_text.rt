@@ -19,6 +19,7 @@ impl EntrySink for ListText {
     ghost stops = { λ _ _ _ _. Unit {0} };
 
     /// Appends the line of an entry. Fault: Memory.
+    #[inline(always)]
     fn take(&mut self, key: &Key, value: &[u8], owner: Option<TxId>) -> Result<(), Memory> {
         self.count = self.count.checked_add(1).ok_or(Memory)?;
         push_entry(&mut self.text, key, value, owner)?;

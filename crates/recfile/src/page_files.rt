@@ -5,8 +5,8 @@ ghost use Rattle.page_journal.specs.Files.{Files};
 ghost use Rattle.recfile.specs.FilesAt.{IsCleanAt, IsFoundAt};
 
 use crate::dump::DumpFault;
-use crate::file_fault::FileFault;
 use crate::telling::Telling;
+use file_session::FileFault;
 use page_journal::Disk;
 use page_looks::{Reach, Wanted};
 use page_store::Store;
@@ -31,8 +31,7 @@ pub trait PageFiles {
         ensures found { IfOk result (λ disk. IsTrue (Self.Device.steady disk)
             → Self.at self.now path.now (Self.Device.began disk)) }
         ensures rest { IfOk result (IsAtRest Self.Device.DiskState) }
-        ensures began { IfOk result (λ disk. IsTrue (Self.Device.steady disk)
-            → Self.Device.seen disk ≡ Self.Device.began disk) }
+        ensures began { IfOk result (λ disk. Self.Device.seen disk ≡ Self.Device.began disk) }
         ensures moment { IfOk result (λ disk. Self.Device.moment disk ≡ 0) }
         ensures failures { IfOk result (λ disk. Self.Device.failures disk ≡ 0) };
 

@@ -1,19 +1,18 @@
 ghost use Rattle.std.specs.Prelude.{◌≡◌, ◌⊎◌, None, IfOk, IfSome};
 ghost use Rattle.recfile.specs.FilesAt.{SessionOf};
 ghost use Rattle.recfile.specs.Filling.{CanFill, FillsAt, LooksAt};
-ghost use Rattle.recfile.specs.Settling.{IsJustSettled, SettlesAt};
+ghost use Rattle.file_session.specs.Settling.{IsJustSettled, SettlesAt};
 ghost use Rattle.recfile.specs.Tasks.{RunsOver};
 
-use crate::file_fault::FileFault;
 use crate::filling::fill_blank;
 use crate::flushing::run_flushing;
 use crate::kept_file::{DiskEnd, run_kept};
 use crate::manner::Manner;
 use crate::page_files::PageFiles;
-use crate::settling::settle;
 use crate::statuses::exit_status;
 use crate::streams::{CountedRead, CountedWrite, StreamCalls};
 use crate::tell::{tell, tell_device};
+use file_session::{FileFault, settle};
 use page_journal::Disk;
 use page_looks::Wanted;
 use rec_types::{Key, Limits, Record};

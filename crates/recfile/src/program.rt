@@ -6,8 +6,6 @@ ghost use Rattle.recfile.specs.Tasks.{DoesTask, DoesAny, IsDump, IsTreeLine, Res
 
 use crate::copying::{CopyingFault, copy_into, open_whole};
 use crate::dump::{DumpFault, dump_in, rescue_in};
-use crate::file_fault::FileFault;
-use crate::limits::greatest_limits;
 use crate::loading::load;
 use crate::page_file::{check_in, create_in};
 use crate::page_files::PageFiles;
@@ -18,6 +16,7 @@ use crate::statuses::exit_status;
 use crate::streams::StreamCalls;
 use crate::tell::{tell, tell_device};
 use crate::words::{Task, UsageFault, read_words};
+use file_session::{FileFault, greatest_limits};
 use page_looks::Wanted;
 use record_texts::Form;
 use std::alloc::Global;

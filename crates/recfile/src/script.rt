@@ -12,9 +12,9 @@ ghost use Rattle.command_text.specs.declared.reply.Reply.{Reply};
 
 use crate::call::{command_count, reply_to};
 use crate::commit_keeper::CommitKeeper;
-use crate::next_line::next_line;
 use crate::streams::{CountedRead, CountedWrite, StreamCalls};
 use command_text::{Command, LineFault, read_line};
+use file_session::next_line;
 use rec_types::Table;
 use record_file::RecordFile;
 use std::alloc::Global;

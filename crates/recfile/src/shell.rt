@@ -11,11 +11,11 @@ ghost use Rattle.recfile.specs.Shell.{AsksFlush, LinesAnswered, AnsweredSoFar, I
 
 use crate::call::command_count;
 use crate::commit_keeper::CommitKeeper;
-use crate::next_line::cut_line;
 use crate::part_line::PartLine;
 use crate::script::{RunFault, ScriptFault, answer};
 use crate::streams::{CountedRead, CountedWrite, StreamCalls};
 use command_text::{Command, LineFault};
+use file_session::cut_line;
 use rec_types::Table;
 use record_file::RecordFile;
 use std::alloc::Global;

@@ -1,9 +1,9 @@
 ghost use Rattle.std.specs.Prelude.{◌≡◌};
 
 use crate::dump::DumpFault;
-use crate::file_fault::FileFault;
 use crate::page_files::PageFiles;
 use crate::telling::Telling;
+use file_session::FileFault;
 use file_system::{HostFile, HostSystem, Lock};
 use page_journal::{FileDisk, has_side_file_or_log, keep_made, make_file, take_away};
 use page_looks::{Reach, Wanted, explain_file, reach_file, show_file, tell_why};

@@ -1,5 +1,5 @@
-use crate::file_fault::FileFault;
 use crate::page_files::PageFiles;
+use file_session::FileFault;
 use page_looks::Wanted;
 use std::alloc::Global;
 use std::fmt::Display;

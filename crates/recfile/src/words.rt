@@ -4,10 +4,10 @@ ghost use Rattle.clap.specs.Simple.{subcommand_rows_of};
 ghost use Rattle.clap.specs.Walk.{one_of, rows_of};
 ghost use Rattle.recfile.specs.Words.{AreAskedLimits, AsksFor, IsDrawing, IsFlag, IsForm, IsManner, IsNamed, IsRead, IsSeparator, IsShell, word_in};
 
-use crate::limits::greatest_limits;
 use crate::manner::{Feed, Manner};
 use crate::telling::Telling;
 use clap::{Arg, ArgAction, ArgMatches, Command, Error, value_parser};
+use file_session::greatest_limits;
 use page_looks::Drawing;
 use rec_types::{LimitFault, Limits, MOST_BEGINS, MOST_LOG_RECORDS, MOST_RECORDS};
 use record_texts::{Form, Separator};
@@ -286,7 +286,7 @@ fn bare_program<'a>(alloc: Global) -> Result<Command<'a>, AllocError> {
     Ok(
         program.version(VERSION).about(
             "A keyed record file under transactions; with no words, the same as memory. The lines of a script: \
-begin, put, del, get, claim, save, release, back, resume, abort, commit, list, keys, log",
+begin, put, del, get, claim, save, release, back, resume, abort, commit, list, from, upto, committed, keys, log",
         ),
     )
 }

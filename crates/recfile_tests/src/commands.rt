@@ -25,6 +25,9 @@ fn push_command(text: &mut String, command: Command) -> Result<(), AllocError> {
         Command::Abort(tx) => write!(text, "abort {}", tx.0),
         Command::Commit(tx) => write!(text, "commit {}", tx.0),
         Command::List => write!(text, "list"),
+        Command::From(key, n) => write!(text, "from {:?} {n}", key.bytes()),
+        Command::Upto(key, n) => write!(text, "upto {:?} {n}", key.bytes()),
+        Command::Committed(key) => write!(text, "committed {:?}", key.bytes()),
         Command::Keys(tx) => write!(text, "keys {}", tx.0),
         Command::Log => write!(text, "log"),
     }
@@ -51,7 +54,7 @@ fn expect(rt: &impl Abort, alloc: Global, lines: &str, wanted: &str) {
 }
 
 /// Lines, and what each of them says.
-const LINES: [(&str, &str, &str); 10] = [
+const LINES: [(&str, &str, &str); 11] = [
     (
         "each command is read",
         "begin\nput 1 a =x\ndel 2 b\nget 3 c\nsave 4\nrelease 5 6\nback 7 8\nresume 9\nabort 10\ncommit 11\nlist\nkeys 12\nlog\nclaim 13 d",
@@ -92,6 +95,11 @@ const LINES: [(&str, &str, &str); 10] = [
         "claims and their faults",
         "claim 1 a\n  claim  01  a  \nclaim 1 a\r\nclaim 1 %00\nclaim 1 =a\nclaim 4294967295 abcdefghijklmnop\nclaims 1 a\nClaim 1 a\nclaim# 1 a\nclai 1 a\n#claim 1 a\nclaim\nclaim 1\nclaim 1 a b\nclaim 1 a =x\nclaim x\nclaim x a\nclaim x abcdefghijklmnopq\nclaim 4294967296 a\nclaim -1 a\nclaim 1 abcdefghijklmnopq",
         "claim 1 [97]\nclaim 1 [97]\nclaim 1 [97]\nclaim 1 [0]\nclaim 1 [61, 97]\nclaim 4294967295 [97, 98, 99, 100, 101, 102, 103, 104, 105, 106, 107, 108, 109, 110, 111, 112]\nUnknownCommand\nUnknownCommand\nUnknownCommand\nUnknownCommand\n-\nWordCount\nWordCount\nWordCount\nWordCount\nWordCount\nBadNumber\nBadNumber\nBadNumber\nBadNumber\nKeyTooLong\n",
+    ),
+    (
+        "ordered reads and their faults",
+        "from a 10\nupto %00 0\n  from  =a  007  \ncommitted a\ncommitted abcdefghijklmnop\nfrom abcdefghijklmnop 4294967295\nFrom a 1\nfro a 1\nup a 1\ncommit_ted a\n#from a 1\nfrom\nfrom a\nfrom a 1 2\nupto\nupto a\nupto 1 a 2\ncommitted\ncommitted 1 a\nfrom abcdefghijklmnopq\nfrom abcdefghijklmnopq x\nupto a x\nupto a -1\nupto a 4294967296\nfrom 1 a\ncommitted abcdefghijklmnopq",
+        "from [97] 10\nupto [0] 0\nfrom [61, 97] 7\ncommitted [97]\ncommitted [97, 98, 99, 100, 101, 102, 103, 104, 105, 106, 107, 108, 109, 110, 111, 112]\nfrom [97, 98, 99, 100, 101, 102, 103, 104, 105, 106, 107, 108, 109, 110, 111, 112] 4294967295\nUnknownCommand\nUnknownCommand\nUnknownCommand\nUnknownCommand\n-\nWordCount\nWordCount\nWordCount\nWordCount\nWordCount\nWordCount\nWordCount\nWordCount\nWordCount\nKeyTooLong\nBadNumber\nBadNumber\nBadNumber\nBadNumber\nKeyTooLong\n",
     ),
     (
         "keys and records have a greatest length",

@@ -3,10 +3,11 @@ ghost use Rattle.recfile.specs.Streams.{IsBlankFor};
 
 use crate::crashes::filled;
 use crate::expect_text;
+use file_session::FileFault;
 use page_journal::MemDisk;
 use page_looks::{Reach, Wanted};
 use page_store::MemStore;
-use recfile::{DumpFault, FileFault, PageFiles, Screen, StreamCalls, Telling, run_words};
+use recfile::{DumpFault, PageFiles, Screen, StreamCalls, Telling, run_words};
 use std::alloc::Global;
 use std::io::Write;
 use std::marker::Brand;

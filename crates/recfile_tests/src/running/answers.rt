@@ -4,14 +4,14 @@ mod remaining;
 mod turns;
 
 use command_text::{Command, read_line};
-use rec_types::{Entry, Key, Record, Table};
+use rec_types::{Entry, Gap, Key, Record, Side, Table};
 use record_file::{Answer, Call, RecordFile, Status, run_calls};
 use std::alloc::Global;
 use std::fmt::Debug;
 use std::process::Abort;
 use tx_log::LogRecord;
 
-/// The call of a command.
+/// The call of a command; of a list of some records, the look at the first of them.
 fn call_of(command: Command) -> Call {
     match command {
         Command::Begin => Call::Begin,
@@ -26,6 +26,9 @@ fn call_of(command: Command) -> Call {
         Command::Abort(tx) => Call::Abort(tx),
         Command::Commit(tx) => Call::Commit(tx),
         Command::List => Call::Entries,
+        Command::From(key, _) => Call::Beside(Side::After, Gap::Before(key)),
+        Command::Upto(key, _) => Call::Beside(Side::Before, Gap::Behind(key)),
+        Command::Committed(key) => Call::Committed(key),
         Command::Keys(tx) => Call::KeysOf(tx),
         Command::Log => Call::LogLen,
     }
@@ -195,6 +198,11 @@ fn push_look(rt: &impl Abort, text: &mut String, answer: &Answer) {
         Answer::Get(Err(fault)) => push_fault(rt, text, fault),
         Answer::Entries(Ok(entries)) => push_entries(rt, text, entries),
         Answer::Entries(Err(fault)) => push_fault(rt, text, fault),
+        Answer::Beside(Ok(Some(entry))) => push_entries(rt, text, &[*entry]),
+        Answer::Beside(Ok(None)) => text.push_str("-").expect(rt, "no memory"),
+        Answer::Beside(Err(fault)) => push_fault(rt, text, fault),
+        Answer::Committed(Ok(found)) => text.push_str(word(rt, found)).expect(rt, "no memory"),
+        Answer::Committed(Err(fault)) => push_fault(rt, text, fault),
         Answer::KeysOf(Ok(keys)) => push_keys(rt, text, keys),
         Answer::KeysOf(Err(fault)) => push_fault(rt, text, fault),
         Answer::Status(Ok(status)) => push_status(rt, text, status),

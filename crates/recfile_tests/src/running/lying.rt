@@ -3,7 +3,9 @@ ghost use Rattle.rec_types.specs.Table.{Damages, damaged_by};
 
 mod lies;
 
-use rec_types::{Key, NO_CALLS, Record, RecordSink, Table, TableCalls, TableFault, TableState};
+use rec_types::{
+    Gap, Key, NO_CALLS, Record, RecordSink, Side, Table, TableCalls, TableFault, TableState,
+};
 
 /// What a table that isn't sound says in place of what it should do.
 #[derive(Clone, Copy, Debug)]
@@ -110,6 +112,17 @@ impl<T: Table> Table for LyingTable<T> {
         answer
     }
 
+    fn beside(&mut self, side: Side, gap: &Gap) -> Result<Option<(Key, Record)>, TableFault> {
+        let answer = match self.lies.next() {
+            None | Some(Lie::NoRoom) => self.inner.beside(side, gap),
+            Some(Lie::Nothing) => Ok(None),
+            Some(Lie::Damaged(page)) => Err(TableFault::Damaged(page)),
+        };
+        self.named.note(&answer);
+        self.calls.note_get();
+        answer
+    }
+
     fn set(&mut self, key: Key, to: Option<Record>) -> Result<Option<Record>, TableFault> {
         let takes_out = to.is_none();
         let answer = match self.lies.next() {
@@ -145,6 +158,24 @@ impl<T: Table> Table for LyingTable<T> {
             return lie;
         }
         let answer = self.inner.tell(sink, out);
+        self.named.note(&answer);
+        answer
+    }
+
+    fn tell_beside<O, K: RecordSink<O>>(
+        &mut self,
+        side: Side,
+        gap: &Gap,
+        sink: &mut K,
+        out: &mut O,
+    ) -> Result<Result<(), K::Fault>, TableFault> {
+        self.calls.note_list();
+        if let Some(Lie::Damaged(page)) = self.lies.next() {
+            let lie = Err(TableFault::Damaged(page));
+            self.named.note(&lie);
+            return lie;
+        }
+        let answer = self.inner.tell_beside(side, gap, sink, out);
         self.named.note(&answer);
         answer
     }

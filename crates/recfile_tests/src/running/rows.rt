@@ -300,6 +300,49 @@ const CLAIMS: [Row<'static>; 8] = [
     },
 ];
 
+const ORDERED: [Row<'static>; 5] = [
+    Row {
+        name: "an empty file has no neighbours",
+        limits: (1_000_000, 4_000_000, 1_000_000),
+        failing: &[],
+        script: "from a 2\nupto a 2\nfrom %00 1\nupto abcdefghijklmnop 1\ncommitted a\n",
+        replies: "ok 0\nok 0\nok 0\nok 0\nok none\n",
+        commands: 5,
+    },
+    Row {
+        name: "one record, at it, below and above",
+        limits: (1_000_000, 4_000_000, 1_000_000),
+        failing: &[],
+        script: "begin\nput 1 b =x\nfrom a 9\nfrom b 9\nfrom b%00 9\nupto a%ff 9\nupto b 9\nupto c 9\nfrom b 0\n",
+        replies: "ok 1\nok none\n- b =x @1\nok 1\n- b =x @1\nok 1\nok 0\nok 0\n- b =x @1\nok 1\n- b =x @1\nok 1\nok 0\n",
+        commands: 9,
+    },
+    Row {
+        name: "keys that begin as others do",
+        limits: (1_000_000, 4_000_000, 1_000_000),
+        failing: &[],
+        script: "begin\nput 1 ab =2\nput 1 a =1\nput 1 %00 =0\nput 1 abcdefghijklmnop =3\nput 1 b =4\ncommit 1\nfrom a 2\nfrom ab 2\nfrom abc 1\nfrom abcdefghijklmnop 9\nupto abc 2\nupto %00 9\nupto b 2\nfrom c 1\n",
+        replies: "ok 1\nok none\nok none\nok none\nok none\nok none\nok\n- a =1\n- ab =2\nok 2\n- ab =2\n- abcdefghijklmnop =3\nok 2\n- abcdefghijklmnop =3\nok 1\n- abcdefghijklmnop =3\n- b =4\nok 2\n- ab =2\n- a =1\nok 2\n- %00 =0\nok 1\n- b =4\n- abcdefghijklmnop =3\nok 2\nok 0\n",
+        commands: 15,
+    },
+    Row {
+        name: "keys in inner pages, a split and a catenation",
+        limits: (1_000_000, 4_000_000, 1_000_000),
+        failing: &[],
+        script: "begin\nput 1 a =v\nput 1 b =v\nput 1 c =v\nput 1 d =v\nput 1 e =v\nput 1 f =v\nput 1 g =v\ncommit 1\nfrom b 3\nupto f 3\nfrom d%00 1\nupto c%ff 1\nbegin\ndel 2 c\ndel 2 d\ndel 2 b\nfrom b 2\nupto d 2\nupto g 9\n",
+        replies: "ok 1\nok none\nok none\nok none\nok none\nok none\nok none\nok none\nok\n- b =v\n- c =v\n- d =v\nok 3\n- f =v\n- e =v\n- d =v\nok 3\n- e =v\nok 1\n- c =v\nok 1\nok 2\nok =v\nok =v\nok =v\n- e =v\n- f =v\nok 2\n- a =v\nok 1\n- g =v\n- f =v\n- e =v\n- a =v\nok 4\n",
+        commands: 20,
+    },
+    Row {
+        name: "what open transactions have put and taken out",
+        limits: (1_000_000, 4_000_000, 1_000_000),
+        failing: &[],
+        script: "begin\nbegin\nput 1 a =1\nput 1 b =2\ncommit 1\nput 2 a =3\ndel 2 b\nput 2 c =4\nbegin\nclaim 3 d\nfrom a 9\nupto c 1\ncommitted a\ncommitted b\ncommitted c\ncommitted d\nback 2 0\nfrom a 9\ncommitted a\nabort 3\ncommitted d\n",
+        replies: "ok 1\nok 2\nok none\nok none\nok\nok =1\nok =2\nok none\nok 3\nok none\n- a =3 @2\n- c =4 @2\nok 2\n- c =4 @2\nok 1\nok =1\nok =2\nok none\nok none\nok 3\n- a =1\n- b =2\nok 2\nok =1\nok 1\nok none\n",
+        commands: 21,
+    },
+];
+
 const STOPPED_ROLLBACKS: [Row<'static>; 3] = [
     STOPPED,
     Row {
@@ -328,5 +371,6 @@ fn scripts_over_every_table(rt: HostRuntime) {
     expect_rows(&rt, alloc, &SEVERAL_TRANSACTIONS);
     expect_rows(&rt, alloc, &HELD_KEYS);
     expect_rows(&rt, alloc, &CLAIMS);
+    expect_rows(&rt, alloc, &ORDERED);
     expect_rows(&rt, alloc, &STOPPED_ROLLBACKS)
 }

@@ -17,4 +17,9 @@ returns c = record {
   number_first = refl;
   key_first = refl;
   mark = refl;
+  from = refl;
+  upto = refl;
+  key_before_number = refl;
+  committed = refl;
+  committed_by_none = refl;
 }

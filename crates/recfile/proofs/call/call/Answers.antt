@@ -43,3 +43,12 @@ returns-in-Keys g c = record { ran = subst (λ (k : Command). CommandRan g.T.Tab
 
 pub returns-in-Log : goal.returns-in-Log
 returns-in-Log g c = record { ran = subst (λ (k : Command). CommandRan g.T.TableState g.K.Keeper.keeps g.K.Keeper.moves c.args.file.now (Ok k) c.log.result (string_bytes c.log.new.text) c.log.new.file) (sym c.in-Log.is) (ran_of g.T.TableState g.K.Keeper.keeps g.K.Keeper.moves g.met.K.Keeper.moves_none _ _ _ _ _ c.log.ensures) }
+
+pub returns-in-From : goal.returns-in-From
+returns-in-From g c = record { ran = subst (λ (k : Command). CommandRan g.T.TableState g.K.Keeper.keeps g.K.Keeper.moves c.args.file.now (Ok k) c.from.result (string_bytes c.from.new.text) c.from.new.file) (sym c.in-From.is) (ran_of g.T.TableState g.K.Keeper.keeps g.K.Keeper.moves g.met.K.Keeper.moves_none _ _ _ _ _ c.from.ensures) }
+
+pub returns-in-Upto : goal.returns-in-Upto
+returns-in-Upto g c = record { ran = subst (λ (k : Command). CommandRan g.T.TableState g.K.Keeper.keeps g.K.Keeper.moves c.args.file.now (Ok k) c.upto.result (string_bytes c.upto.new.text) c.upto.new.file) (sym c.in-Upto.is) (ran_of g.T.TableState g.K.Keeper.keeps g.K.Keeper.moves g.met.K.Keeper.moves_none _ _ _ _ _ c.upto.ensures) }
+
+pub returns-in-Committed : goal.returns-in-Committed
+returns-in-Committed g c = record { ran = subst (λ (k : Command). CommandRan g.T.TableState g.K.Keeper.keeps g.K.Keeper.moves c.args.file.now (Ok k) c.committed.result (string_bytes c.committed.new.text) c.committed.new.file) (sym c.in-Committed.is) (ran_of g.T.TableState g.K.Keeper.keeps g.K.Keeper.moves g.met.K.Keeper.moves_none _ _ _ _ _ c.committed.ensures) }

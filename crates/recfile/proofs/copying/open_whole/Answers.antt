@@ -1,4 +1,4 @@
-use Rattle.recfile.proofs.OpenedLemmas.{can_be_opened}
+use Rattle.file_session.proofs.OpeningLemmas.{can_be_opened}
 use Rattle.recfile.proofs.copying.open_whole.Goals as goal
 
 pub returns-in-Ok-clause-closed : goal.returns-in-Ok-clause-closed

@@ -2,7 +2,7 @@ use Rattle.std.proofs.Common.{Result, OnOk, Ok, Err, subst, ◌∙◌}
 use Rattle.std.specs.FinMap as maps
 use Rattle.rec_types.specs.Contents.{Contents}
 use Rattle.btree_delete.specs.TableView.{table_contents}
-use Rattle.recfile.proofs.OpenedLemmas.{can_be_opened}
+use Rattle.file_session.proofs.OpeningLemmas.{can_be_opened}
 use Rattle.recfile.proofs.ReadingLemmas.{Told, fault_told, silent_told}
 use Rattle.recfile.proofs.dump.dump_in.Goals as goal
 

@@ -1,10 +1,10 @@
 use Rattle.std.proofs.Common.{inl, inr, Err, ap, sym, subst, ◌∙◌}
 use Rattle.std.specs.FinMap as maps
 use Rattle.btree_delete.specs.TableView.{table_contents}
-use Rattle.recfile.specs.FileFaults.{fault_of_listing}
+use Rattle.file_session.specs.FileFaults.{fault_of_listing}
 use Rattle.recfile.specs.Tasks.{IsDump, WritesListed}
 use Rattle.recfile.specs.declared.dump.DumpFault.TheVariants.{File}
-use Rattle.recfile.specs.declared.file_fault.FileFault.{FileFault}
+use Rattle.file_session.specs.declared.file_fault.FileFault.{FileFault}
 use Rattle.recfile.proofs.ReadingLemmas.{listed, told_ended, told_front, told_some, told_stopped}
 use Rattle.btree_insert.proofs.ToldLemmas.{took, stopped}
 use Rattle.recfile.specs.Spelled.{Stops, Took}

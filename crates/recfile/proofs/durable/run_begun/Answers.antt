@@ -7,14 +7,15 @@ use Rattle.rec_types.specs.Contents.{Contents}
 use Rattle.page_store.specs.Opening.{Opening}
 use Rattle.page_journal.specs.Files.{Files, PageFile}
 use Rattle.page_journal.specs.KeptStores.{failures_with, opened_over}
-use Rattle.recfile.specs.Dumped.{IsFirstOrOutside, IsOutsideFile}
-use Rattle.recfile.specs.DurableSession.{EndsDurably, IsBegunBeside, LeavesUnread}
-use Rattle.recfile.specs.FileFaults.{is_file_device}
-use Rattle.recfile.specs.Kept.{CountsClosing, LeavesOld, opening_file}
-use Rattle.recfile.specs.LogOver.{HoldsWithin, head_line}
-use Rattle.recfile.specs.declared.file_fault.FileFault.{FileFault}
-use Rattle.recfile.proofs.ClosingCountLemmas.{device_of_opening, disk_counts, some_told, unsealed, unused_guard}
-use Rattle.recfile.proofs.OpenedLemmas.{can_be_opened}
+use Rattle.file_session.specs.Opened.{IsFirstOrOutside, IsOutsideFile}
+use Rattle.recfile.specs.DurableSession.{EndsDurably}
+use Rattle.file_session.specs.Beginning.{IsBegunBeside, LeavesUnread}
+use Rattle.file_session.specs.FileFaults.{is_file_device}
+use Rattle.file_session.specs.Closing.{CountsClosing, LeavesOld, opening_file}
+use Rattle.file_session.specs.LogOver.{HoldsWithin, head_line}
+use Rattle.file_session.specs.declared.file_fault.FileFault.{FileFault}
+use Rattle.file_session.proofs.ClosingCountLemmas.{device_of_opening, disk_counts, some_told, unsealed, unused_guard}
+use Rattle.file_session.proofs.OpeningLemmas.{can_be_opened}
 use Rattle.recfile.proofs.durable.run_begun.Goals as goal
 
 pub returns-in-Ok-clause-closed : goal.returns-in-Ok-clause-closed

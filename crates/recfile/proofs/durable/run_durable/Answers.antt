@@ -6,17 +6,18 @@ use Rattle.page_journal.specs.Files.{PageFile, Files, recovered}
 use Rattle.page_journal.specs.KeptStores.{opened_over}
 use Rattle.page_journal.specs.Logging.{SaysNoneOr}
 use Rattle.page_journal.specs.LoggedStores.{commits_in}
-use Rattle.recfile.specs.Beside.{IsHeadFault}
-use Rattle.recfile.specs.Dumped.{CanBeOpened, IsFirstOrOutside, IsOutsideFile}
-use Rattle.recfile.specs.DurableSession.{EndsDurably, LeavesUnread, StandsUnbegun}
-use Rattle.recfile.specs.FileFaults.{is_file_device}
-use Rattle.recfile.specs.Kept.{CountsClosing, IsOutsideDisk, IsUnopened, LeavesOld}
-use Rattle.recfile.specs.LogOver.{HoldsWithin, head_line}
-use Rattle.recfile.specs.declared.file_fault.FileFault.{FileFault}
-use Rattle.recfile.proofs.ClosingCountLemmas.{device_of_recovery, some_told}
+use Rattle.file_session.specs.Beside.{IsHeadFault}
+use Rattle.file_session.specs.Opened.{CanBeOpened, IsFirstOrOutside, IsOutsideFile}
+use Rattle.recfile.specs.DurableSession.{EndsDurably}
+use Rattle.file_session.specs.Beginning.{LeavesUnread, StandsUnbegun}
+use Rattle.file_session.specs.FileFaults.{is_file_device}
+use Rattle.file_session.specs.Closing.{CountsClosing, IsOutsideDisk, IsUnopened, LeavesOld}
+use Rattle.file_session.specs.LogOver.{HoldsWithin, head_line}
+use Rattle.file_session.specs.declared.file_fault.FileFault.{FileFault}
+use Rattle.file_session.proofs.ClosingCountLemmas.{device_of_recovery, some_told}
 use Rattle.recfile.proofs.DurableLemmas.{begun_unread}
 use Rattle.recfile.proofs.KeptLemmas.{wider}
-use Rattle.recfile.proofs.SettlingLemmas.{head_first}
+use Rattle.file_session.proofs.SettlingLemmas.{head_first}
 use Rattle.recfile.proofs.durable.run_durable.Given as given
 use Rattle.recfile.proofs.durable.run_durable.Goals as goal
 use Rattle.recfile.proofs.durable.run_durable.Goals.{After-run_begun}

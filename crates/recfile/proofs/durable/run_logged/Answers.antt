@@ -1,4 +1,4 @@
-use Rattle.std.proofs.Common.{◌≡◌, ◌≤◌, inl, arith, ℕ, false, true, List, [], ◌∷◌, is_some, Result, Ok, Err, OnOk, IsTrue, refl, sym, ap, subst, ◌∙◌}
+use Rattle.std.proofs.Common.{◌≡◌, ◌≤◌, inl, arith, ℕ, true, List, [], ◌∷◌, is_some, Result, Ok, Err, OnOk, IsTrue, refl, sym, ap, subst, ◌∙◌}
 use Rattle.std.specs.FinMap as maps
 use Rattle.std.specs.Result.{is_err}
 use Rattle.btree_delete.specs.TableView.{TableView, table_contents}
@@ -9,14 +9,14 @@ use Rattle.record_file.specs.Durable.{overlay}
 use Rattle.record_file.specs.Runs.{Seen, seen_as}
 use Rattle.rec_types.specs.Contents.{Contents}
 use Rattle.rec_types.specs.LimitBounds.{most_records}
-use Rattle.recfile.specs.Beside.{IsSettledWith, LeavesEnded, LosesNone}
-use Rattle.recfile.specs.DurableSession.{IsBegunBeside, logged_file}
-use Rattle.recfile.specs.Kept.{LeavesOld, opening_file}
-use Rattle.recfile.specs.LogOver.{head_line}
-use Rattle.recfile.specs.LogKeeping.{IsKeptBeside}
-use Rattle.recfile.specs.Overlaid.{writes_in_turn}
+use Rattle.file_session.specs.Beside.{IsSettledWith, LeavesEnded, LosesNone}
+use Rattle.file_session.specs.Beginning.{IsBegunBeside}
+use Rattle.recfile.specs.DurableSession.{logged_file}
+use Rattle.file_session.specs.Closing.{LeavesOld, opening_file}
+use Rattle.file_session.specs.LogOver.{head_line}
+use Rattle.file_session.specs.LogKeeping.{IsKeptBeside}
+use Rattle.file_session.specs.Overlaid.{writes_in_turn}
 use Rattle.recfile.specs.SessionCommits.{MakesCommits, in_doubt}
-use Rattle.recfile.specs.Statuses.{exit_status_of}
 use Rattle.recfile.specs.WholeSession.{IsSession, IsUncounted}
 use Rattle.recfile.specs.declared.endings.EndFault.{EndFault}
 use Rattle.recfile.proofs.DurableLemmas.{DoubtIs, each_finds, ended_finds_all, opening_finds}

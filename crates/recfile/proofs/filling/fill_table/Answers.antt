@@ -5,11 +5,11 @@ use Rattle.page_journal.specs.Crash.{FilesStandFor}
 use Rattle.page_journal.specs.Files.{recovered}
 use Rattle.page_journal.specs.KeptStores.{guard_of}
 use Rattle.page_journal.specs.Recovery.{is_recovery_device as is_recovery}
-use Rattle.recfile.specs.FileFaults.{is_file_device}
+use Rattle.file_session.specs.FileFaults.{is_file_device}
 use Rattle.recfile.specs.Filling.{loaded}
-use Rattle.recfile.specs.Kept.{HasRecords, IsKeptWith, opening_file}
-use Rattle.recfile.specs.declared.file_fault.FileFault.{FileFault}
-use Rattle.recfile.proofs.ClosingCountLemmas.{ok_told, unrefused}
+use Rattle.file_session.specs.Closing.{HasRecords, IsKeptWith, opening_file}
+use Rattle.file_session.specs.declared.file_fault.FileFault.{FileFault}
+use Rattle.file_session.proofs.ClosingCountLemmas.{ok_told, unrefused}
 use Rattle.recfile.proofs.FillingLemmas.{has_loaded, kept_loaded}
 use Rattle.recfile.proofs.filling.fill_table.Goals as goal
 

@@ -1,6 +1,6 @@
 use Rattle.std.proofs.Common.{ℕ}
 use Rattle.recfile.specs.Flushing.{FlushesTimes}
-use Rattle.recfile.specs.Settling.{IsJustSettled}
+use Rattle.file_session.specs.Settling.{IsJustSettled}
 use Rattle.recfile.proofs.flushing.run_flushing.Given as goal
 
 -- sessions led here from the beginning, and the next can begin

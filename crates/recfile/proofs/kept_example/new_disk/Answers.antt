@@ -6,7 +6,7 @@ use Rattle.btree_node.specs.Layout.{second_version}
 use Rattle.btree_delete.specs.TableView.{IsClosed}
 use Rattle.page_journal.specs.Files.{recovered}
 use Rattle.page_journal.specs.declared.mem_disk.MemDisk.{MemDisk}
-use Rattle.recfile.specs.declared.file_fault.FileFault.{FileFault}
+use Rattle.file_session.specs.declared.file_fault.FileFault.{FileFault}
 use Rattle.recfile.proofs.kept_example.new_disk.Goals as goal
 
 -- and no bytes after its pages

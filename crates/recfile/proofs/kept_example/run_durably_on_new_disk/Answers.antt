@@ -5,8 +5,8 @@ use Rattle.page_journal.specs.Files.{recovered}
 use Rattle.page_journal.specs.declared.mem_disk.MemDisk.{MemDisk}
 use Rattle.page_journal.specs.contracts.mem_disk.MemDiskDiskState.TheImpl.{ghosts}
 use Rattle.recfile.specs.DurableSession.{EndsDurably}
-use Rattle.recfile.specs.Kept.{IsOutsideDisk}
-use Rattle.recfile.specs.LogOver.{head_line}
+use Rattle.file_session.specs.Closing.{IsOutsideDisk}
+use Rattle.file_session.specs.LogOver.{head_line}
 use Rattle.recfile.proofs.OpenedLemmas.{no_records}
 use Rattle.recfile.proofs.kept_example.run_durably_on_new_disk.Goals as goal
 

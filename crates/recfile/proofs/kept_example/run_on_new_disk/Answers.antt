@@ -4,7 +4,8 @@ use Rattle.btree_node.specs.Layout.{second_version}
 use Rattle.page_journal.specs.Files.{recovered}
 use Rattle.page_journal.specs.declared.mem_disk.MemDisk.{MemDisk}
 use Rattle.page_journal.specs.contracts.mem_disk.MemDiskDiskState.TheImpl.{ghosts}
-use Rattle.recfile.specs.Kept.{ClosesSafely, IsOutsideDisk}
+use Rattle.recfile.specs.Kept.{ClosesSafely}
+use Rattle.file_session.specs.Closing.{IsOutsideDisk}
 use Rattle.recfile.specs.WholeSession.{EndsFile, opened_file}
 use Rattle.recfile.proofs.OpenedLemmas.{no_records}
 use Rattle.recfile.proofs.kept_example.run_on_new_disk.Goals as goal

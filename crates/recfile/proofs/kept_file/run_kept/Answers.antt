@@ -4,13 +4,15 @@ use Rattle.rec_types.specs.Table.{counted}
 use Rattle.btree_insert.specs.declared.tree.Tree.{Tree}
 use Rattle.btree_delete.specs.TableView.{IsClosed}
 use Rattle.page_journal.specs.Files.{Files, recovered}
-use Rattle.recfile.specs.Dumped.{CanBeOpened, IsOutsideFile}
-use Rattle.recfile.specs.FileFaults.{is_file_device}
-use Rattle.recfile.specs.Kept.{ClosesSafely, IsOutsideDisk}
+use Rattle.file_session.specs.Opened.{CanBeOpened, IsOutsideFile}
+use Rattle.file_session.specs.FileFaults.{is_file_device}
+use Rattle.recfile.specs.Kept.{ClosesSafely}
+use Rattle.file_session.specs.Closing.{IsOutsideDisk}
 use Rattle.recfile.specs.WholeSession.{EndsFile, opened_file}
-use Rattle.recfile.specs.declared.file_fault.FileFault.{FileFault}
-use Rattle.recfile.proofs.ClosingCountLemmas.{device_of_recovery, some_told}
-use Rattle.recfile.proofs.KeptLemmas.{wider, not_recovered, at_some}
+use Rattle.file_session.specs.declared.file_fault.FileFault.{FileFault}
+use Rattle.file_session.proofs.ClosingCountLemmas.{device_of_recovery, some_told}
+use Rattle.recfile.proofs.KeptLemmas.{wider, at_some}
+use Rattle.file_session.proofs.ClosingLemmas.{not_recovered}
 use Rattle.recfile.proofs.kept_file.run_kept.Goals as goal
 
 pub returns-in-Ok-clause-session : goal.returns-in-Ok-clause-session

@@ -6,14 +6,15 @@ use Rattle.page_journal.specs.KeptStores.{failures_with, guard_of, opened_over}
 use Rattle.rec_types.specs.Table.{counted}
 use Rattle.btree_delete.specs.CleanFile.{is_open_device_fault}
 use Rattle.record_file.specs.Runs.{Seen}
-use Rattle.recfile.specs.FileFaults.{is_file_device}
-use Rattle.recfile.proofs.ClosingCountLemmas.{device_of_opening, some_told, unrefused, unsealed}
-use Rattle.recfile.specs.Dumped.{CanBeOpened, IsOutsideFile}
+use Rattle.file_session.specs.FileFaults.{is_file_device}
+use Rattle.file_session.proofs.ClosingCountLemmas.{device_of_opening, some_told, unrefused, unsealed}
+use Rattle.file_session.specs.Opened.{CanBeOpened, IsOutsideFile}
 use Rattle.page_store.specs.Opening.{Opening}
-use Rattle.recfile.specs.Kept.{ClosesSafely, opening_file}
+use Rattle.recfile.specs.Kept.{ClosesSafely}
+use Rattle.file_session.specs.Closing.{opening_file}
 use Rattle.recfile.specs.WholeSession.{EndsFile, opened_file}
-use Rattle.recfile.specs.declared.file_fault.FileFault.{FileFault}
-use Rattle.recfile.proofs.OpenedLemmas.{can_be_opened}
+use Rattle.file_session.specs.declared.file_fault.FileFault.{FileFault}
+use Rattle.file_session.proofs.OpeningLemmas.{can_be_opened}
 use Rattle.recfile.proofs.kept_file.run_stored.Goals as goal
 
 pub returns-in-Ok-clause-closed : goal.returns-in-Ok-clause-closed

@@ -5,8 +5,9 @@ use Rattle.page_store.specs.Opening.{Opening}
 use Rattle.record_file.specs.Abstract.{OpenFile}
 use Rattle.record_file.specs.Runs.{Seen, seen}
 use Rattle.rec_types.specs.Table.{counted}
-use Rattle.recfile.specs.FileFaults.{file_by_device}
-use Rattle.recfile.specs.Kept.{ClosesSafely, CountsClosing, LeavesOld, opening_file, is_sealed, refused_calls}
+use Rattle.file_session.specs.FileFaults.{file_by_device}
+use Rattle.recfile.specs.Kept.{ClosesSafely}
+use Rattle.file_session.specs.Closing.{CountsClosing, LeavesOld, opening_file, is_sealed, refused_calls}
 use Rattle.recfile.specs.WholeSession.{IsSession, IsUncounted, opened_file}
 use Rattle.recfile.proofs.SoundRunLemmas.{sound_ran}
 use Rattle.recfile.specs.Statuses.{exit_status_of}

@@ -1,7 +1,7 @@
 use Rattle.std.proofs.Common.{◌≡◌, ◌∙◌, ℕ, ◌+◌, ◌<◌, Bool, true, false, refl, ap, arith}
 use Rattle.std.proofs.lemmas.Bool.Decides.{nat_tests}
 use Rattle.rec_types.specs.Table.{counted}
-use Rattle.recfile.proofs.ClosingCountLemmas.{no_less, one_more}
+use Rattle.file_session.proofs.ClosingCountLemmas.{no_less, one_more}
 use Rattle.recfile.proofs.laws.closings_are_counted.Goals as goal
 
 pub returns-clause-silent : goal.returns-clause-silent

@@ -3,11 +3,12 @@ use Rattle.std.proofs.lemmas.List.{length-take}
 use Rattle.command_text.specs.Dump.{dump_text}
 use Rattle.rec_types.specs.declared.table.TableFault.{TableFault}
 use Rattle.rec_types.specs.declared.table.TableFault.TheVariants as listing
-use Rattle.recfile.specs.Dumped.{IsOutsideFile, IsPartWritten}
-use Rattle.recfile.specs.FileFaults.{fault_of_listing}
+use Rattle.file_session.specs.Opened.{IsOutsideFile}
+use Rattle.recfile.specs.Dumped.{IsPartWritten}
+use Rattle.file_session.specs.FileFaults.{fault_of_listing}
 use Rattle.recfile.specs.Tasks.{IsDump, WritesListed}
 use Rattle.recfile.specs.declared.dump.DumpFault.TheVariants.{File}
-use Rattle.recfile.specs.declared.file_fault.FileFault.TheVariants.{BadMagic, Damaged}
+use Rattle.file_session.specs.declared.file_fault.FileFault.TheVariants.{BadMagic, Damaged}
 use Rattle.recfile.proofs.laws.dumps_in_part.Goals as goal
 
 -- a text of which a part is written isn't written whole

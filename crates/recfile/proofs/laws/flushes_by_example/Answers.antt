@@ -5,10 +5,10 @@ use Rattle.command_text.specs.Units.{Write}
 use Rattle.page_journal.specs.Files.{recovered}
 use Rattle.record_file.specs.Durable.{overlay}
 use Rattle.recfile.specs.Flushing.{flush_reply}
-use Rattle.recfile.specs.Overlaid.{writes_in_turn}
+use Rattle.file_session.specs.Overlaid.{writes_in_turn}
 use Rattle.recfile.specs.Shell.{flush_line}
 use Rattle.recfile.proofs.DurableExampleLemmas.{one}
-use Rattle.recfile.proofs.KeptOnceLemmas.{held_within_once}
+use Rattle.file_session.proofs.FindsOnceLemmas.{held_within_once}
 use Rattle.recfile.proofs.laws.flushes_by_example.Goals as goal
 
 -- bytes don't follow some of them

@@ -1,4 +1,4 @@
-use Rattle.recfile.proofs.LogLemmas.{log_said, log_found, unit_logged, found_in_order, open_unit, no_rollback}
+use Rattle.file_session.proofs.LogLemmas.{log_said, log_found, unit_logged, found_in_order, open_unit, no_rollback}
 use Rattle.recfile.proofs.laws.logs_are_read.Goals as goal
 
 pub returns : goal.returns

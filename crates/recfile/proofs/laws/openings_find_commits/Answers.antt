@@ -1,4 +1,4 @@
-use Rattle.recfile.proofs.LogOverLemmas.{empty_log, once_put, other_file, other_version, over_again, over_once, unalone}
+use Rattle.file_session.proofs.LogOverLemmas.{empty_log, once_put, other_file, other_version, over_again, over_once, unalone}
 use Rattle.recfile.proofs.laws.openings_find_commits.Goals as goal
 
 pub returns : goal.returns

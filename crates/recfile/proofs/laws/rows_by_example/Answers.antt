@@ -5,7 +5,7 @@ use Rattle.std.proofs.lemmas.List.{length-take-le}
 use Rattle.rec_types.specs.LimitBounds.{Bounds}
 use Rattle.page_journal.specs.declared.disk_state.DiskState.{Ghosts}
 use Rattle.recfile.specs.Flushing.{BeginsNone, EndsRow, SessionPoint, flush_reply}
-use Rattle.recfile.specs.declared.file_fault.FileFault.{FileFault}
+use Rattle.file_session.specs.declared.file_fault.FileFault.{FileFault}
 use Rattle.recfile.specs.declared.manner.Manner.{Manner}
 use Rattle.recfile.proofs.laws.rows_by_example.Goals as goal
 

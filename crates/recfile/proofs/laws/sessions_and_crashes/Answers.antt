@@ -1,5 +1,5 @@
 use Rattle.std.proofs.Common.{inl, inr, ⊎_elim, ◌∙◌, sym, subst}
-use Rattle.recfile.specs.Kept.{HasRecords}
+use Rattle.file_session.specs.Closing.{HasRecords}
 use Rattle.recfile.proofs.laws.sessions_and_crashes.Goals as goal
 
 pub returns : goal.returns

@@ -11,12 +11,13 @@ use Rattle.btree_delete.specs.CleanFile.{Opens, in_file}
 use Rattle.btree_delete.specs.TableView.{TableView, table_contents}
 use Rattle.btree_delete.proofs.MeasureLemmas.{root_in_use}
 use Rattle.btree_delete.proofs.TableLimitLemmas.{all_pages}
-use Rattle.recfile.specs.Dumped.{CanBeOpened, DumpStops, IsDumpFault}
+use Rattle.file_session.specs.Opened.{CanBeOpened}
+use Rattle.recfile.specs.Dumped.{DumpStops, IsDumpFault}
 use Rattle.recfile.specs.TreeLine.{counts_in, counts_line}
 use Rattle.recfile.specs.declared.page_file.TreeCounts.{TreeCounts}
 use Rattle.recfile.specs.declared.dump.DumpFault.{DumpFault}
 use Rattle.recfile.specs.declared.dump.DumpFault.TheVariants.{File, Write}
-use Rattle.recfile.proofs.OpenedLemmas.{can_be_opened}
+use Rattle.file_session.proofs.OpeningLemmas.{can_be_opened}
 use Rattle.recfile.proofs.page_file.check_in.Goals as goal
 
 none_of : {A : Type 0} (o : Option A) → (IsSome o → ⊥) → o ≡ None

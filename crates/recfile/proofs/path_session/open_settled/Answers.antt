@@ -1,7 +1,7 @@
 use Rattle.std.proofs.Common.{◌∙◌, Result, refl, ap, subst}
 use Rattle.rec_types.specs.Table.{counted}
-use Rattle.recfile.specs.Settling.{PutsRight}
-use Rattle.recfile.specs.declared.file_fault.FileFault.{FileFault}
+use Rattle.file_session.specs.Settling.{PutsRight}
+use Rattle.file_session.specs.declared.file_fault.FileFault.{FileFault}
 use Rattle.recfile.proofs.path_session.open_settled.Goals as goal
 
 pub returns-clause-settles : goal.returns-clause-settles

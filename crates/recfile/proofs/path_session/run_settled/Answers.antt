@@ -1,6 +1,6 @@
 use Rattle.std.proofs.Common.{◌≡◌, Bool, List, ℕ, Option, Some, None, IfSome, sym, ap, subst}
 use Rattle.recfile.specs.FilesAt.{SessionOf}
-use Rattle.recfile.specs.declared.file_fault.FileFault.{FileFault}
+use Rattle.file_session.specs.declared.file_fault.FileFault.{FileFault}
 use Rattle.recfile.proofs.path_session.run_settled.Goals as goal
 
 -- where the file isn't opened, nothing is read and nothing written

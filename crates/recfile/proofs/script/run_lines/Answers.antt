@@ -11,7 +11,8 @@ use Rattle.command_text.specs.Grammar.{Read}
 use Rattle.command_text.specs.Texts.{text_of}
 use Rattle.recfile.specs.Run.{LinesStop, LineSent, says_command}
 use Rattle.recfile.specs.Streams.{is_write}
-use Rattle.recfile.proofs.ScriptRunLemmas.{Walked, walked_none, walked-more, walked-on, served, served-all, written-none, written-more, accepted-more, refused_at, stops_at, count_fits, lines_fit, nothing_left}
+use Rattle.recfile.proofs.ScriptRunLemmas.{Walked, walked_none, walked-more, walked-on, served, served-all, written-none, written-more, accepted-more, refused_at, stops_at, count_fits, lines_fit}
+use Rattle.file_session.proofs.ScriptCutLemmas.{nothing_left}
 use Rattle.recfile.proofs.script.run_lines.Goals as goal
 use Rattle.recfile.proofs.script.run_lines.Goals.{else-strict-via-then-strict+else-refused, else-strict-via-else-strict}
 

@@ -9,7 +9,7 @@ use Rattle.record_file.specs.Abstract.{OpenFile, new_file}
 use Rattle.record_file.specs.Runs.{Seen, seen}
 use Rattle.recfile.specs.WholeSession.{IsSession}
 use Rattle.recfile.specs.Whole.{empty_file}
-use Rattle.recfile.specs.declared.file_fault.FileFault.{FileFault}
+use Rattle.file_session.specs.declared.file_fault.FileFault.{FileFault}
 use Rattle.recfile.proofs.session.run_memory.Goals as goal
 
 -- what a sorted table shows

@@ -2,7 +2,7 @@ use super::{answers_to, calls_of, text_of};
 use crate::expect_named;
 use crate::running::flaky_file;
 use crate::running::rows::{CLAIMS_BESIDE, TWO_ROLLBACKS};
-use rec_types::{Key, Limits, Record, SortedTable, Table, TxId};
+use rec_types::{Gap, Key, Limits, Record, Side, SortedTable, Table, TxId};
 use record_file::{Call, RecordFile};
 use std::alloc::Global;
 use std::process::Abort;
@@ -120,12 +120,21 @@ fn what_a_stop_and_the_lists_tell(rt: HostRuntime) {
         answers: "Err(Stopped { undone: 1, left: 1, cause: Device })\nrolling 1 true\nOk(1)\nErr(NoSuchTx)\nNoSuchTx\n",
     };
     expect(&rt, rt.alloc(), &stopped);
+    let second = Key::new(b"b").expect(&rt, "no key");
     let lists = Row {
         name: "lists name the owners",
         failing: &[],
         script: "begin\nbegin\nput 1 b =x\nput 2 a =y\ncommit 2\n",
-        calls: &[Call::Entries, Call::KeysOf(TxId(1)), Call::KeysOf(TxId(2))],
-        answers: "a=y b=x@1 \nb \nNoSuchTx\n",
+        calls: &[
+            Call::Entries,
+            Call::KeysOf(TxId(1)),
+            Call::KeysOf(TxId(2)),
+            Call::Beside(Side::After, Gap::Start),
+            Call::Beside(Side::Before, Gap::End),
+            Call::Beside(Side::After, Gap::Behind(second)),
+            Call::Committed(second),
+        ],
+        answers: "a=y b=x@1 \nb \nNoSuchTx\na=y \nb=x@1 \n-\n-\n",
     };
     expect(&rt, rt.alloc(), &lists)
 }

@@ -8,12 +8,13 @@ use crate::running::rows::{
 };
 use crate::running::{Row, flaky_file, open, run, store_of, three_records, tree};
 use btree_delete::{CloseStop, TreeTable};
+use file_session::FileFault;
 use page_store::{FlakyStore, Store, WriteFault};
 use rec_types::{Limits, SortedTable, Table};
-use recfile::{Feed, FileFault, Manner, StreamCalls, exit_status, run_session};
+use recfile::{Feed, Manner, StreamCalls, exit_status, run_session};
 use record_file::{
-    AbortFault, Answer, Call, ClaimFault, EntriesFault, GetFault, PutFault, RecordFile,
-    RemoveFault, ResumeFault, RollbackToFault, Unlogged, make_call,
+    AbortFault, Answer, Call, ClaimFault, CommittedFault, EntriesFault, GetFault, PutFault,
+    RecordFile, RemoveFault, ResumeFault, RollbackToFault, Unlogged, make_call,
 };
 use std::alloc::Global;
 use std::io::Write;
@@ -30,6 +31,8 @@ fn is_refused(answer: &Answer) -> bool {
             | Answer::Remove(Err(RemoveFault::Device))
             | Answer::Get(Err(GetFault::Device))
             | Answer::Entries(Err(EntriesFault::Device))
+            | Answer::Beside(Err(EntriesFault::Device))
+            | Answer::Committed(Err(CommittedFault::Device))
     )
 }
 
@@ -177,6 +180,12 @@ fn each_read_fails_in_turn(rt: HostRuntime) {
             "begin\nbegin\nclaim 1 b\nclaim 1 a\nclaim 2 d\nback 1 0\nkeys 2\nlog\n",
             "1\n2\ny\nx\n-\nOk(2)\nd \n5\n",
             "Device\nDevice\n",
+        ),
+        // The root and a changed page are in memory, and the log tells what is committed at an owned key.
+        (
+            "begin\nput 1 a =1\nfrom b 1\nfrom b%00 1\nupto a 1\nupto d 1\ncommitted a\ncommitted c\n",
+            "1\nx\nb=y \nc=z \na=1@1 \nc=z \nx\nz\n",
+            "Device\nDevice\nDevice\nDevice\n",
         ),
     ] {
         let calls = calls_of(&rt, alloc, script);

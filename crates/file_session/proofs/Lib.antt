@@ -1,0 +1,11 @@
+pub mod CallsOutLemmas
+pub mod ClosingCountLemmas
+pub mod ClosingLemmas
+pub mod FindsOnceLemmas
+pub mod HeadLemmas
+pub mod LogLemmas
+pub mod LogOverLemmas
+pub mod OpeningLemmas
+pub mod OverlayFaultLemmas
+pub mod ScriptCutLemmas
+pub mod SettlingLemmas

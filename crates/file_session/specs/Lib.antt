@@ -1,0 +1,10 @@
+pub mod Beginning
+pub mod Beside
+pub mod CallsOut
+pub mod Closing
+pub mod FileFaults
+pub mod LogKeeping
+pub mod LogOver
+pub mod Opened
+pub mod Overlaid
+pub mod Settling

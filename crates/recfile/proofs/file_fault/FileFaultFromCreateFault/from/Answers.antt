@@ -1,5 +1,0 @@
-use Rattle.std.proofs.Common.{rules}
-use Rattle.recfile.proofs.file_fault.FileFaultFromCreateFault.from.Goals as goal
-
-pub returns-in-NotEmpty : goal.returns-in-NotEmpty
-returns-in-NotEmpty c = search rules
