@@ -219,6 +219,13 @@ int32_t recfile_commit(recfile *file, uint32_t tx);
 /* What an open transaction is doing. OK, CLOSED, NO_SUCH_TX. */
 int32_t recfile_status(recfile *file, uint32_t tx, recfile_tx_status *status);
 
+/* The record that stands at a key without the changes of open transactions: *found. No key is held here. OK, CLOSED, EMPTY_KEY,
+ * LONG_KEY, DEVICE or DAMAGED. */
+int32_t recfile_committed(recfile *file, const uint8_t *key, size_t key_len, recfile_record *found, recfile_detail *detail);
+
+/* How many records there are, also where an open transaction put them. OK, CLOSED. */
+int32_t recfile_count(recfile *file, uint32_t *n);
+
 /* How many keys have a record or an owner; how many transactions were begun; the length of the log; that, and the live
  * changes of open transactions. OK, CLOSED. */
 int32_t recfile_charged(recfile *file, uint64_t *n);
@@ -233,8 +240,19 @@ int32_t recfile_log_record(recfile *file, uint32_t lsn, recfile_log_entry *entry
  * DEVICE or DAMAGED, MEMORY. */
 int32_t recfile_entries(recfile *file, uint64_t *n, recfile_detail *detail);
 
-/* Record i of that list, from 0. OK, CLOSED, NO_SUCH_ENTRY. */
+/* Record i of the list, from 0. OK, CLOSED, NO_SUCH_ENTRY. */
 int32_t recfile_entry(recfile *file, uint64_t i, recfile_listed *told);
+
+/* The record of the least key above a key, of no bytes the first record; and the record of the greatest key below one, of no
+ * bytes the last: *told, also where an open transaction put it. OK, CLOSED, LONG_KEY, DEVICE or DAMAGED, MEMORY, ABSENT. */
+int32_t recfile_after(recfile *file, const uint8_t *key, size_t key_len, recfile_listed *told, recfile_detail *detail);
+int32_t recfile_before(recfile *file, const uint8_t *key, size_t key_len, recfile_listed *told, recfile_detail *detail);
+
+/* Lists at most `most` records from a key on, *n of them, in the place of the list before: in key order, or the greatest key
+ * first where is_down isn't 0. The record at the key is among them where at_key isn't 0. Of no bytes they are those from that
+ * end of the order on. OK, CLOSED, LONG_KEY, DEVICE or DAMAGED, MEMORY. */
+int32_t recfile_range(recfile *file, const uint8_t *key, size_t key_len, uint8_t at_key, uint8_t is_down, uint32_t most,
+                      uint64_t *n, recfile_detail *detail);
 
 /* Lists the keys that an open transaction owns in order, *n of them. OK, CLOSED, NO_SUCH_TX, MEMORY. */
 int32_t recfile_keys_of(recfile *file, uint32_t tx, uint64_t *n);

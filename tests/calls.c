@@ -229,6 +229,56 @@ static int32_t entry(recfile *file, arguments given, uint64_t *number) {
     return status;
 }
 
+static int32_t count(recfile *file, arguments given, uint64_t *number) {
+    (void)given;
+    return narrow(recfile_count, file, number);
+}
+
+static int32_t committed(recfile *file, arguments given, uint64_t *number) {
+    recfile_record found = {0};
+    recfile_detail detail;
+    int32_t status = recfile_committed(file, bytes(given.key), strlen(given.key), &found, &detail);
+    *number = first(&found);
+    return status;
+}
+
+static int32_t after(recfile *file, arguments given, uint64_t *number) {
+    recfile_listed told = {0};
+    recfile_detail detail;
+    int32_t status = recfile_after(file, bytes(given.key), strlen(given.key), &told, &detail);
+    *number = first(&told.value);
+    return status;
+}
+
+static int32_t before(recfile *file, arguments given, uint64_t *number) {
+    recfile_listed told = {0};
+    recfile_detail detail;
+    int32_t status = recfile_before(file, bytes(given.key), strlen(given.key), &told, &detail);
+    *number = first(&told.value);
+    return status;
+}
+
+/* So many entries past a key, and from it on; and the same the other way. */
+static int32_t past(recfile *file, arguments given, uint64_t *number) {
+    recfile_detail detail;
+    return recfile_range(file, bytes(given.key), strlen(given.key), 0, 0, given.of, number, &detail);
+}
+
+static int32_t from(recfile *file, arguments given, uint64_t *number) {
+    recfile_detail detail;
+    return recfile_range(file, bytes(given.key), strlen(given.key), 1, 0, given.of, number, &detail);
+}
+
+static int32_t below(recfile *file, arguments given, uint64_t *number) {
+    recfile_detail detail;
+    return recfile_range(file, bytes(given.key), strlen(given.key), 0, 1, given.of, number, &detail);
+}
+
+static int32_t upto(recfile *file, arguments given, uint64_t *number) {
+    recfile_detail detail;
+    return recfile_range(file, bytes(given.key), strlen(given.key), 255, 255, given.of, number, &detail);
+}
+
 static int32_t keys_of(recfile *file, arguments given, uint64_t *number) {
     return recfile_keys_of(file, given.of, number);
 }
@@ -334,6 +384,40 @@ static const row SESSION[] = {
     ASK(entries, OK, 2),
     OF(entry, 1, OK, 4),
     OF(entry, 2, NO_SUCH_ENTRY, 0),
+    ASK(count, OK, 2),
+    AT(after, 0, "", OK, 1),
+    AT(after, 0, "a", OK, 4),
+    AT(after, 0, "b", OK, 4),
+    AT(after, 0, "c", ABSENT, 0),
+    AT(after, 0, "12345678 12345678", LONG_KEY, 0),
+    AT(before, 0, "", OK, 4),
+    AT(before, 0, "d", OK, 4),
+    AT(before, 0, "c", OK, 1),
+    AT(before, 0, "a", ABSENT, 0),
+    AT(before, 0, "12345678 12345678", LONG_KEY, 0),
+    AT(from, 9, "a", OK, 2),
+    OF(entry, 0, OK, 1),
+    OF(entry, 1, OK, 4),
+    AT(past, 9, "a", OK, 1),
+    OF(entry, 0, OK, 4),
+    OF(entry, 1, NO_SUCH_ENTRY, 0),
+    AT(upto, 9, "c", OK, 2),
+    OF(entry, 0, OK, 4),
+    OF(entry, 1, OK, 1),
+    AT(below, 9, "c", OK, 1),
+    OF(entry, 0, OK, 1),
+    AT(past, 1, "", OK, 1),
+    OF(entry, 0, OK, 1),
+    AT(below, 1, "", OK, 1),
+    OF(entry, 0, OK, 4),
+    AT(from, 9, "12345678 12345678", LONG_KEY, 0),
+    OF(entry, 0, OK, 4),
+    AT(from, 0, "a", OK, 0),
+    OF(entry, 0, NO_SUCH_ENTRY, 0),
+    OF(key_length, 1, OK, 1),
+    AT(committed, 0, "a", OK, 0),
+    AT(committed, 0, "", EMPTY_KEY, 0),
+    AT(committed, 0, "12345678 12345678", LONG_KEY, 0),
     ASK(charged, OK, 3),
     ASK(begun, OK, 2),
     ASK(log_len, OK, 9),
@@ -348,13 +432,19 @@ static const row SESSION[] = {
     OF(roll_back, 2, OK, 2),
     ASK(close, OK, 0),
     ASK(begin, CLOSED, 0),
+    ASK(count, CLOSED, 0),
+    AT(after, 0, "", CLOSED, 0),
+    AT(before, 0, "", CLOSED, 0),
+    AT(from, 9, "a", CLOSED, 0),
+    AT(committed, 0, "a", CLOSED, 0),
 };
 
 static const row IN_MEMORY[] = {ASK(begin, CLOSED, 0), ASK(memory, OK, 0)};
 static const row OF_MEMORY[] = {ASK(step_count, OK, 0), ASK(discard, OK, 0), ASK(discard, CLOSED, 0)};
 static const row IN_PAGES[] = {OF(create, 17, BAD_ORDER, 0), OF(create, 2, OK, 0)};
 static const row REOPENED[] = {
-    ASK(entries, OK, 1), OF(entry, 0, OK, 1), ASK(close, OK, 0), ASK(step_count, OK, 0), ASK(discard, OK, 0),
+    ASK(entries, OK, 1), OF(entry, 0, OK, 1), AT(after, 0, "", OK, 1), AT(before, 0, "", OK, 1), AT(committed, 0, "a", OK, 1),
+    ASK(count, OK, 1), ASK(close, OK, 0), ASK(step_count, OK, 0), ASK(discard, OK, 0),
 };
 
 

@@ -35,7 +35,7 @@ for part in "Lines that can't be read" Refusals "Faults and statuses"; do
     [ -n "$(names_below "$part")" ]
     named_in "$manual/man1/recfile.1" $(names_below "$part")
 done
-named_in "$manual/man1/recfile.1" begin put del get claim save release back resume abort commit list keys log
+named_in "$manual/man1/recfile.1" begin put del get claim save release back resume abort commit list from upto committed keys log
 named_in "$manual/man3/recfile.3" $(grep -ohE '\brecfile_[a-z_]+\(' include/*.h | tr -d '(' | sort -u) \
     $(grep -ohE '^ *RECFILE_[A-Z_]+ = |\{ RECFILE_BAD_JOURNAL' include/*.h | grep -oE 'RECFILE_[A-Z_]+' |
         grep -vE '_(SET_PAGES|WRITE|SYNC)$')

@@ -1,7 +1,7 @@
 #!/bin/sh
 # The packages, as a user gets them: the wheel of python/ in a clean environment of each Python that is there, the crate of
-# rust/recfile by cargo, and the library by pkg-config. Their tests, a fuzz run, and one program of stock and orders in each
-# language, which prints the same in all. Everything is made in a folder of its own, and without a network.
+# rust/recfile by cargo, and the library by pkg-config. Their tests, a fuzz run, and two programs in each language, of stock and
+# orders and of pages of a list, which print the same in all. Everything is made in a folder of its own, and without a network.
 #   tests/packages.sh [PREFIX]
 # PREFIX is a folder that ./install was given; without it the library is installed anew. PYTHONS names other Pythons.
 set -eu
@@ -22,22 +22,26 @@ cd "$room"
 quietly() { # WORD..: the command, whose text is shown where it fails
     "$@" >"$room/out" 2>&1 || { echo "packages: FAILED: $*"; cat "$room/out"; exit 1; }
 }
-same_stock() { # NAME WORD..: the program prints what the others do
-    name=$1
-    shift
+same() { # EXAMPLE NAME WORD..: the program prints what the others do
+    wanted=$top/examples/$1.out
+    name=$1_$2
+    shift 2
     rm -f "$name.rec"
     "$@" "$name.rec" >"$name.out" || { echo "packages: FAILED: $*"; exit 1; }
-    diff "$top/examples/stock.out" "$name.out"
+    diff "$wanted" "$name.out"
     "$prefix/bin/recfile" check "$name.rec" >out
 }
 left_out() { echo "packages: $1 left out, since there is no $2"; }
 
 # The library, in C.
 if command -v cc >out && command -v pkg-config >out; then
-    quietly cc -std=c11 -Wall -Wextra -Werror -o stock_shared "$top/examples/c/stock.c" $(pkg-config --cflags --libs recfile)
-    same_stock shared env LD_LIBRARY_PATH="$prefix/lib" ./stock_shared
-    quietly cc -std=c11 -o stock_static "$top/examples/c/stock.c" $(pkg-config --cflags recfile) "$prefix/lib/librecfile.a"
-    same_stock static ./stock_static
+    for example in stock pages; do
+        source=$top/examples/c/$example.c
+        quietly cc -std=c11 -Wall -Wextra -Werror -o shared "$source" $(pkg-config --cflags --libs recfile)
+        same $example shared env LD_LIBRARY_PATH="$prefix/lib" ./shared
+        quietly cc -std=c11 -o static "$source" $(pkg-config --cflags recfile) "$prefix/lib/librecfile.a"
+        same $example static ./static
+    done
     echo "packages: C ok"
 else
     left_out C "cc or no pkg-config"
@@ -79,7 +83,8 @@ test_python() { # PYTHON: over the wheel as it is installed
     install_wheel "$1" environment
     quietly environment/bin/python -W error -m unittest discover -s "$top/python/tests"
     echo "packages: $("$1" --version): $(sed -n 's/^Ran \(.*\) in.*/\1/p' out) ok"
-    same_stock python environment/bin/python "$top/python/examples/stock.py"
+    same stock python environment/bin/python "$top/python/examples/stock.py"
+    same pages python environment/bin/python "$top/python/examples/pages.py"
 }
 
 # Random calls beside a model, the same under valgrind, which may say nothing of the package, stops and failing calls, and
@@ -128,7 +133,7 @@ if command -v cargo >out && command -v cc >out; then
     cd crate
     quietly cargo test --offline -j1
     grep -c '\.\.\. ok$' "$room/out" >"$room/count"
-    quietly cargo build --offline -j1 --example stock
+    quietly cargo build --offline -j1 --examples
     quietly cc -shared -fPIC -O1 -o "$room/refuse.so" "$top/python/tests/refuse.c" -ldl
     quietly cargo test --offline -j1 --features dynamic --test stopped --no-run
     stopped=$(ls "$room"/target/debug/deps/stopped-* -t | grep -v '\.d$' | head -n 1)
@@ -138,7 +143,8 @@ if command -v cargo >out && command -v cc >out; then
         exit 1
     fi
     cd ..
-    same_stock rust target/debug/examples/stock
+    same stock rust target/debug/examples/stock
+    same pages rust target/debug/examples/pages
     echo "packages: $(cargo --version): $(cat count) tests ok"
 else
     left_out Rust "cargo or no cc"

@@ -218,7 +218,7 @@ def main():
         wrapped(program)
         screen, status = screen_of(program, ["shell"], [b"help\n", END])
         expect("the commands", [line.split()[0] for line in screen.split("\n")[1:-1]],
-               "begin put del get claim save release back resume abort commit list keys log flush show recfile> nothing".split())
+               "begin put del get claim save release back resume abort commit list from upto committed keys log flush show recfile> nothing".split())
         screen, status = screen_of(program, [], [])
         if "Usage: recfile" not in screen or "To begin: recfile create" not in screen or status != 0:
             raise SystemExit(f"terminal: FAILED: no word: {screen!r}, status {status}")

@@ -35,7 +35,7 @@ expect_device() { # WHY: the line behind the first
 row="the help"
 run --help
 expect 0 ""
-for word in begin put del get claim save release back resume abort commit list keys log; do
+for word in begin put del get claim save release back resume abort commit list from upto committed keys log; do
     grep -q "The lines of a script:.* $word\(,\|$\)" out || fail "$word isn't named"
 done
 for word in create run shell check copy dump load explain show rescue memory; do

@@ -40,6 +40,10 @@ class Model:
         self.set(key, record)
         return before
 
+    def committed(self, key):
+        owned = self.changes.get(self.owner(key), [])
+        return next((before for changed, before in owned if changed == key), self.records.get(key))
+
     def set(self, key, record):
         if record is None:
             self.records.pop(key, None)
@@ -125,6 +129,12 @@ class Beside:
         told = [(it.key, it.record, it.owner) for it in self.file.entries()]
         owners = {key: model.owner(key) for key in model.records}
         assert told == [(key, model.records[key], owners[key] and owners[key].number) for key in sorted(model.records)]
+        assert len(self.file) == len(told)
+        low, high = sorted(self.rng.choices(KEYS, k=2))
+        inside = [it for it in told if low <= it[0] < high]
+        assert [(it.key, it.record, it.owner) for it in self.file.entries(low, high, reverse=True)] == inside[::-1]
+        for key in KEYS[2:]:
+            assert self.file.committed(key) == model.committed(key)
         for transaction, changes in model.changes.items():
             assert transaction.held() == sorted({key for key, _ in changes})
             assert transaction.status()[2:4] == (len(model.savepoints[transaction]), len(changes))
@@ -150,7 +160,7 @@ def wrong_words(rng, calls):
     file = recfile.memory(records=rng.choice((3, 50)), log=rng.choice((8, 60, 400)), begins=rng.choice((2, 30)))
     things = [file]
     names = ("begin", "savepoint", "rollback", "release", "abort", "commit", "resume", "status", "held", "put", "get", "claim",
-             "remove", "pop", "update", "entries", "log_use", "clear", "__setitem__", "__getitem__", "__delitem__",
+             "remove", "pop", "update", "entries", "keys", "items", "values", "first", "last", "committed", "log_use", "clear", "__setitem__", "__getitem__", "__delitem__",
              "__contains__", "__len__", "__iter__", "__enter__", "close")
     for _ in range(calls):
         thing, name = rng.choice(things), rng.choice(names)

@@ -135,14 +135,54 @@ class Lists(MemoryCase):
                                    (b"k", None, 50), (b"", b"k01", 1), (b"k09", b"k05", 0)):
             self.assertEqual(len(list(self.file.entries(start, stop))), count, (start, stop))
 
-    def test_a_list_stays_while_records_change(self):
+    def test_the_other_way(self):
+        self.file.update({b"k%03d" % i: b"%d" % i for i in range(200)})
+        told = [entry.key for entry in self.file.entries()]
+        self.assertEqual(told, sorted(told))
+        self.assertEqual([entry.key for entry in self.file.entries(reverse=True)], told[::-1])
+        self.assertEqual(list(reversed(self.file)), told[::-1])
+        for low, high in ((b"k1", b"k15"), (None, b"k0"), (b"k199", None), (b"k150", b"k05"), (b"", b""), (b"k", b""),
+                          (b"k100" + 14 * b"\0", None), (None, b"k100" + 14 * b"\0"), (b"k100", b"k100\0")):
+            inside = [key for key in told if (low is None or low <= key) and (high is None or key < high)]
+            with self.subTest((low, high)):
+                self.assertEqual(list(self.file.keys(low, high)), inside)
+                self.assertEqual(list(self.file.keys(low, high, reverse=True)), inside[::-1])
+                self.assertEqual(list(reversed(self.file.keys(low, high))), inside[::-1])
+                self.assertEqual([key for key, _ in self.file.items(low, high)], inside)
+                self.assertEqual([b"k%03d" % int(record) for record in self.file.values(low, high)], inside)
+
+    def test_views_have_what_those_of_a_dict_have(self):
+        self.file.update({b"a": b"1", b"b": b"2", b"c": b"3"})
+        keys, items, values = self.file.keys(b"b"), self.file.items(b"b"), self.file.values(b"b", b"c")
+        self.assertEqual((len(keys), len(self.file.keys()), len(items), len(values)), (2, 3, 2, 1))
+        self.assertEqual((b"a" in keys, b"b" in keys, (b"b", b"2") in items, (b"b", b"1") in items), (False, True, True, False))
+        self.assertEqual((b"2" in values, b"3" in values, keys & {b"a", b"c"}), (True, False, {b"c"}))
+        self.assertEqual(dict(self.file.items()), dict(self.file))
+
+    def test_a_range_goes_on_while_records_change(self):
+        self.file.update({b"k%03d" % i: b"1" for i in range(0, 200, 2)})
+        met = []
+        for key in self.file.keys():
+            met.append(key)
+            self.file[b"k%03d" % (int(key[1:]) + 1)] = b"2"
+        self.assertEqual(met, sorted(set(met)))
+        self.assertTrue({b"k%03d" % i for i in range(0, 200, 2)} <= set(met))
+        for key in self.file:
+            del self.file[key]
+        self.assertFalse(self.file)
+
+    def test_ends_and_what_is_committed(self):
+        self.assertEqual((self.file.first(), self.file.last(), len(self.file), bool(self.file)), (None, None, 0, False))
         self.file.update({b"a": b"1", b"b": b"2"})
-        first, second = self.file.entries(), iter(self.file)
-        self.assertEqual((next(first).key, next(second)), (b"a", b"a"))
-        del self.file[b"b"]
-        self.file[b"aa"] = b"3"
-        self.assertEqual((next(first).key, next(second)), (b"b", b"b"))
-        self.assertEqual(list(self.file), [b"a", b"aa"])
+        order = self.file.begin()
+        order[b"a"] = b"3"
+        order[b"c"] = b"4"
+        del order[b"b"]
+        self.assertEqual(self.file.first(), recfile.Entry(b"a", b"3", order.number))
+        self.assertEqual(self.file.last(), recfile.Entry(b"c", b"4", order.number))
+        self.assertEqual((len(self.file), [self.file.committed(key) for key in (b"a", b"b", b"c")]), (2, [b"1", b"2", None]))
+        with self.assertRaises(recfile.EmptyKey):
+            self.file.committed(b"")
 
 
 class AsAMapping(MemoryCase):

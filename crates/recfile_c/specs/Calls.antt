@@ -1,18 +1,20 @@
 -- What the calls do to a file behind a handle.
-use Rattle.std.specs.Prelude.{◌≡◌, ℕ, ℤ, pos, List, Option, Some, None, Result, Ok, Err}
+use Rattle.std.specs.Prelude.{◌≡◌, ℕ, ℤ, pos, List, Option, Some, None, Result, Ok, Err, IsTrue}
+use Rattle.std.specs.FinMap as maps
 use Rattle.rec_types.specs.declared.key.KeyFault.{KeyFault}
 use Rattle.rec_types.specs.declared.key.KeyFault.TheVariants.{Empty, TooLong}
 use Rattle.rec_types.specs.declared.record.RecordFault.{RecordFault}
 use Rattle.rec_types.specs.declared.transaction.TxId.{TxId}
 use Rattle.tx_log.specs.declared.phase.BeginFault.{BeginFault}
 use Rattle.tx_log.specs.declared.log_record.LogRecord.{LogRecord}
-use Rattle.record_file.specs.Abstract.{OpenFile}
+use Rattle.record_file.specs.Abstract.{OpenFile, records_of}
 use Rattle.record_file.specs.Runs.{Called, Made}
 use Rattle.record_file.specs.Runs as calls
 use Rattle.record_file.specs.declared.fault.PutFault.{PutFault}
 use Rattle.record_file.specs.declared.fault.ClaimFault.{ClaimFault}
 use Rattle.record_file.specs.declared.fault.RemoveFault.{RemoveFault}
 use Rattle.record_file.specs.declared.fault.GetFault.{GetFault}
+use Rattle.record_file.specs.declared.fault.CommittedFault.{CommittedFault}
 use Rattle.record_file.specs.declared.fault.SavepointFault.{SavepointFault}
 use Rattle.record_file.specs.declared.fault.ReleaseFault.{ReleaseFault}
 use Rattle.record_file.specs.declared.fault.RollbackToFault.{RollbackToFault}
@@ -27,10 +29,10 @@ use Rattle.recfile_c.specs.declared.held.Held.TheVariants.{Open}
 use Rattle.recfile_c.specs.declared.held.Session.{Session}
 use Rattle.recfile_c.specs.declared.outcome.Outcome.{Outcome}
 use Rattle.recfile_c.specs.declared.shown.TxStatus.{TxStatus}
-use Rattle.recfile_c.specs.FileTables.{file_tables}
+use Rattle.recfile_c.specs.FileTables.{file_tables, is_sound}
 use Rattle.recfile_c.specs.Answers.{found_in, taken_in, number_in, begun_in, TellsStatus}
-use Rattle.record_file.specs.Refusals.{begin_refusal, put_refusal, claim_refusal, remove_refusal, get_refusal, savepoint_refusal, release_refusal, rollback_refusal, abort_refusal, resume_refusal, commit_refusal, status_refusal}
-use Rattle.recfile_c.specs.Outcomes.{just, empty_key, long_key, long_record, ok, outcome_by}
+use Rattle.record_file.specs.Refusals.{begin_refusal, put_refusal, claim_refusal, remove_refusal, get_refusal, committed_refusal, savepoint_refusal, release_refusal, rollback_refusal, abort_refusal, resume_refusal, commit_refusal, status_refusal}
+use Rattle.recfile_c.specs.Outcomes.{key_outcome, just, empty_key, long_key, long_record, ok, outcome_by}
 
 abbrev pub FileState : Type 0
 FileState = OpenFile FileTable
@@ -108,6 +110,15 @@ GetBytes t (Err Empty) told found old new = (told ≡ just empty_key) × (found 
 GetBytes t (Err TooLong) told found old new = (told ≡ just long_key) × (found ≡ None) × (new ≡ old)
 GetBytes t (Ok x) told found old new = Get t x told found old new
 
+abbrev pub Committed : List ℕ → Outcome → Option (List ℕ) → FileState → FileState → Type 0
+Committed x told found old new =
+    (answer : Result (Option (List ℕ)) CommittedFault) × (told ≡ outcome_by committed_refusal answer) × (found ≡ found_in answer)
+    × MadeThere old (calls.CommittedAt x answer) new
+
+abbrev pub CommittedBytes : Result (List ℕ) KeyFault → Outcome → Option (List ℕ) → FileState → FileState → Type 0
+CommittedBytes (Err fault) told found old new = (told ≡ key_outcome fault) × (found ≡ None) × (new ≡ old)
+CommittedBytes (Ok x) told found old new = Committed x told found old new
+
 abbrev pub Savepoint : TxId → ℤ → ℕ → FileState → FileState → Type 0
 Savepoint t status n old new =
     (answer : Result ℕ SavepointFault) × (status ≡ (outcome_by savepoint_refusal answer).status) × (n ≡ number_in answer)
@@ -147,6 +158,10 @@ StatusOf t status told old new =
 
 abbrev pub Charged : ℤ → ℕ → FileState → FileState → Type 0
 Charged status n old new = (status ≡ pos ok) × Looked old (calls.Charged n) new
+
+-- how many records there are, of a sound table
+abbrev pub CountsRecords : ℤ → ℕ → FileState → FileState → Type 0
+CountsRecords status n old new = (status ≡ pos ok) × (IsTrue (is_sound old.table) → n ≡ maps.len (records_of old.file)) × (new ≡ old)
 
 abbrev pub Begun : ℤ → ℕ → FileState → FileState → Type 0
 Begun status n old new = (status ≡ pos ok) × Looked old (calls.Begun n) new

@@ -1,6 +1,7 @@
 pub mod Answers
 pub mod Calls
 pub mod FileTables
+pub mod Gaps
 pub mod Lists
 pub mod Opening
 pub mod Outcomes

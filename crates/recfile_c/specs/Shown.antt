@@ -1,5 +1,5 @@
 -- What the structs that a caller reads stand for.
-use Rattle.std.specs.Prelude.{◌≡◌, ℕ, ◌==◌, not, List, [], take, Option, Some, None, if◌then◌else◌}
+use Rattle.std.specs.Prelude.{◌≡◌, ℕ, ◌==◌, not, List, [], take, Option, Some, None, Result, Ok, Err, if◌then◌else◌}
 use Rattle.rec_types.specs.declared.transaction.TxId.{TxId}
 use Rattle.rec_types.specs.declared.transaction.Entry.{Entry}
 use Rattle.tx_log.specs.declared.log_record.LogRecord.{LogRecord}
@@ -12,6 +12,7 @@ use Rattle.recfile_c.specs.declared.shown.TxStatus.{TxStatus}
 use Rattle.recfile_c.specs.declared.shown.StepShown.{StepShown}
 use Rattle.page_store.specs.declared.step.Step.{Step}
 use Rattle.page_store.specs.declared.step.Step.TheVariants.{SetPages, Write, Sync}
+use Rattle.record_file.specs.declared.fault.EntriesFault.{EntriesFault}
 use Rattle.record_file.specs.declared.fault.Status.{Status}
 use Rattle.record_file.specs.declared.fault.Status.TheVariants.{Active, Rolling}
 
@@ -63,6 +64,12 @@ ShowsEntry told e =
 -- no entry is shown
 abbrev pub IsNoEntry : ListedEntry → Type 0
 IsNoEntry told = (told.owner ≡ 0) × (told.is_owned ≡ 0) × (key_shown told.key ≡ []) × (shown told.value ≡ None)
+
+-- the entry that a look found, or none
+abbrev pub ShowsFound : Result (Option Entry) EntriesFault → ListedEntry → Type 0
+ShowsFound (Ok (Some e)) told = ShowsEntry told e
+ShowsFound (Ok None) told = IsNoEntry told
+ShowsFound (Err fault) told = IsNoEntry told
 
 -- a step, with the page that it writes
 abbrev pub step_shown : StepShown → List ℕ → Step

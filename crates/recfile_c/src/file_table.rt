@@ -1,6 +1,6 @@
 use crate::journal::JournalStore;
 use btree_delete::TreeTable;
-use rec_types::{Key, Record, RecordSink, SortedTable, Table, TableFault, TableState};
+use rec_types::{Gap, Key, Record, RecordSink, Side, SortedTable, Table, TableFault, TableState};
 
 /// A table in memory, or in the pages of a file.
 #[derive(Drop)]
@@ -52,6 +52,13 @@ impl Table for FileTable {
         }
     }
 
+    fn beside(&mut self, side: Side, gap: &Gap) -> Result<Option<(Key, Record)>, TableFault> {
+        match self {
+            FileTable::Memory(table) => table.beside(side, gap),
+            FileTable::Paged(table) => table.beside(side, gap),
+        }
+    }
+
     fn entries(&mut self) -> Result<Vec<(Key, Record)>, TableFault> {
         match self {
             FileTable::Memory(table) => table.entries(),
@@ -67,6 +74,19 @@ impl Table for FileTable {
         match self {
             FileTable::Memory(table) => table.tell(sink, out),
             FileTable::Paged(table) => table.tell(sink, out),
+        }
+    }
+
+    fn tell_beside<O, K: RecordSink<O>>(
+        &mut self,
+        side: Side,
+        gap: &Gap,
+        sink: &mut K,
+        out: &mut O,
+    ) -> Result<Result<(), K::Fault>, TableFault> {
+        match self {
+            FileTable::Memory(table) => table.tell_beside(side, gap, sink, out),
+            FileTable::Paged(table) => table.tell_beside(side, gap, sink, out),
         }
     }
 

@@ -10,6 +10,7 @@ pub mod laws;
 mod lists;
 mod looks;
 mod opening;
+mod ordered;
 mod outcome;
 mod paged;
 mod records;

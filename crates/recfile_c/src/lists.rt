@@ -14,8 +14,8 @@ use crate::shown::{KeyBytes, ListedEntry};
 use rec_types::{Entry, Key, TxId};
 use std::alloc::Global;
 
-// The list of an answer, and else an empty one.
-fn list_in<X: Drop, E: Drop>(alloc: Global, answer: Result<Vec<X>, E>) -> Vec<X>
+/// The list of an answer, and else an empty one.
+pub(crate) fn list_in<X: Drop, E: Drop>(alloc: Global, answer: Result<Vec<X>, E>) -> Vec<X>
     ensures { result.items ≡ list_in (listed answer) }
 {
     answer.unwrap_or(Vec::new(alloc))

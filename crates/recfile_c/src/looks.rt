@@ -2,7 +2,7 @@
 ghost use Rattle.std.specs.Prelude.{◌≡◌, pos, None};
 ghost use Rattle.recfile_c.specs.Shown.{log_shown, kind_of, tx_shown, no_status};
 ghost use Rattle.recfile_c.specs.Outcomes.{closed};
-ghost use Rattle.recfile_c.specs.Calls.{OnHandle, OnSession, InFile, StatusOf, Charged, Begun, LogLen, LogUse, RecordAt};
+ghost use Rattle.recfile_c.specs.Calls.{OnHandle, OnSession, InFile, StatusOf, Charged, CountsRecords, Begun, LogLen, LogUse, RecordAt};
 
 use crate::handle::RecFile;
 use crate::held::Held;
@@ -74,6 +74,36 @@ pub extern "C" fn recfile_charged(alloc: Global, file: &mut RecFile, n: &mut u64
         return CLOSED;
     };
     let status = charged(&mut held, n);
+    file.give(held);
+    status
+}
+
+// How many records there are.
+fn count(held: &mut Held, n: &mut u32) -> i32
+    ensures { OnSession ((result ≡ pos closed) × (n.new ≡ 0)) held.old held.new
+        (InFile (CountsRecords result n.new)) }
+{
+    *n = 0;
+    match held {
+        Held::Open(session) => {
+            *n = session.file.count();
+            OK
+        }
+        Held::Image(_) | Held::Unclosed(_) | Held::Closed(_) => CLOSED,
+    }
+}
+
+/// How many records there are. Statuses: OK, CLOSED.
+#[unsafe(no_mangle)]
+pub extern "C" fn recfile_count(alloc: Global, file: &mut RecFile, n: &mut u32) -> i32
+    ensures { OnHandle ((result ≡ pos closed) × (n.new ≡ 0)) file.old.slot.value file.new.slot.value
+        (InFile (CountsRecords result n.new)) }
+{
+    let Some(mut held) = file.take(alloc) else {
+        *n = 0;
+        return CLOSED;
+    };
+    let status = count(&mut held, n);
     file.give(held);
     status
 }

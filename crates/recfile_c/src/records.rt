@@ -4,7 +4,7 @@ ghost use Rattle.rec_types.specs.Key.{key_of};
 ghost use Rattle.rec_types.specs.Record.{record_of};
 ghost use Rattle.recfile_c.specs.Shown.{shown, tx_shown};
 ghost use Rattle.recfile_c.specs.Outcomes.{just, closed};
-ghost use Rattle.recfile_c.specs.Calls.{OnHandle, OnSession, InFile, PutBytes, ClaimBytes, RemoveBytes, GetBytes};
+ghost use Rattle.recfile_c.specs.Calls.{OnHandle, OnSession, InFile, PutBytes, ClaimBytes, CommittedBytes, RemoveBytes, GetBytes};
 ghost use Rattle.recfile_c.specs.Answers.{IsStatusOf};
 
 use crate::handle::RecFile;
@@ -153,6 +153,51 @@ pub extern "C" fn recfile_remove(
         return CLOSED;
     };
     *detail = remove(&mut held, TxId(tx), key, taken);
+    file.give(held);
+    detail.status
+}
+
+// The record without the changes of open transactions.
+fn committed(held: &mut Held, key: &[u8], found: &mut Found) -> Outcome
+    ensures { OnSession ((result ≡ just closed) × (shown found.new ≡ None)) held.old held.new
+        (InFile (CommittedBytes (key_of key.now) result (shown found.new))) }
+{
+    *found = Found::default();
+    match held {
+        Held::Open(session) => {
+            let key = match Key::new(key) {
+                Ok(key) => key,
+                Err(fault) => return Outcome::from(fault),
+            };
+            let answer = session.file.committed(&key);
+            found.show_found(&answer);
+            Outcome::from(&answer)
+        }
+        Held::Image(_) | Held::Unclosed(_) | Held::Closed(_) => Outcome::just(CLOSED),
+    }
+}
+
+/// The record that stands at a key without the changes of open transactions. Statuses: OK, CLOSED, EMPTY_KEY, LONG_KEY, DEVICE
+/// or DAMAGED.
+#[unsafe(no_mangle)]
+pub extern "C" fn recfile_committed(
+    alloc: Global,
+    file: &mut RecFile,
+    key: &[u8],
+    found: &mut Found,
+    detail: &mut Outcome,
+) -> i32
+    ensures step { OnHandle ((detail.new ≡ just closed) × (shown found.new ≡ None))
+        file.old.slot.value file.new.slot.value
+        (InFile (CommittedBytes (key_of key.now) detail.new (shown found.new))) }
+    ensures status { IsStatusOf result detail.new }
+{
+    let Some(mut held) = file.take(alloc) else {
+        *found = Found::default();
+        *detail = Outcome::just(CLOSED);
+        return CLOSED;
+    };
+    *detail = committed(&mut held, key, found);
     file.give(held);
     detail.status
 }

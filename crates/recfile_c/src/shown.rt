@@ -5,7 +5,7 @@ ghost use Rattle.recfile_c.specs.Answers.{found_in, taken_in};
 
 use page_store::Step;
 use rec_types::{Entry, KEY_WIDTH, Key, PAGE_WIDTH, RECORD_WIDTH, Record};
-use record_file::{Status, StatusFault};
+use record_file::{EntriesFault, Status, StatusFault};
 use tx_log::LogRecord;
 
 /// A key: its first `len` bytes.
@@ -398,6 +398,20 @@ impl From<&Entry> for ListedEntry {
             is_owned,
             key: KeyBytes::from(&entry.key),
             value: Found::from(&entry.value),
+        }
+    }
+}
+
+impl From<&Result<Option<Entry>, EntriesFault>> for ListedEntry {
+    ghost use Rattle.recfile_c.specs.Shown.{ShowsFound};
+
+    ghost from_gives = { λ answer told. ShowsFound answer.now told };
+
+    /// The entry that an answer found.
+    fn from(answer: &Result<Option<Entry>, EntriesFault>) -> ListedEntry {
+        match answer {
+            Ok(Some(entry)) => ListedEntry::from(entry),
+            Ok(None) | Err(_) => ListedEntry::default(),
         }
     }
 }

@@ -4,9 +4,9 @@ from __future__ import annotations
 
 import warnings
 import weakref
-from collections.abc import MutableMapping
+from collections.abc import ItemsView, KeysView, MutableMapping, ValuesView
 from types import TracebackType
-from typing import Any, Callable, Dict, Iterator, List, NamedTuple, NoReturn, Optional, Type
+from typing import Any, Callable, Dict, Iterator, List, NamedTuple, NoReturn, Optional, Tuple, Type
 
 from . import _recfile
 from .errors import Closed, DeviceFault, NoSuchSavepoint, ReadOnly, StillOpen, WrongProcess
@@ -119,19 +119,63 @@ class File(MutableMapping[bytes, bytes]):
         with self.begin() as transaction:
             transaction.clear()
 
+    # In key order
+
     def __iter__(self) -> Iterator[bytes]:
         return (entry.key for entry in self.entries())
 
+    def __reversed__(self) -> Iterator[bytes]:
+        return (entry.key for entry in self.entries(reverse=True))
+
     def __len__(self) -> int:
-        """How many records there are: it makes the list of them."""
+        """How many records there are, also those that open transactions have put."""
         return self._ready().count()
 
-    def entries(self, start: Optional[bytes] = None, stop: Optional[bytes] = None) -> Iterator[Entry]:
-        """The records as they stand now, in key order, from `start` on and below `stop`.
+    def entries(
+        self, low: Optional[bytes] = None, high: Optional[bytes] = None, *, reverse: bool = False
+    ) -> Iterator[Entry]:
+        """The records from `low` on and below `high`, in key order, or with the greatest key first.
 
-        Also those that open transactions have put, with their owner. Raises OutOfMemory, Damaged.
+        Also those that open transactions have put, with their owner, and without those that they have taken out. They are
+        read some at a time, each time from the key on that came last: a record that is put or taken out meanwhile may be
+        among them or not, and each key comes once. A transaction that needs them to stay claims them; a new key may still
+        come between. Raises OutOfMemory, Damaged.
         """
-        return map(Entry._make, self._ready().entries(start, stop))
+        handle = self._ready()
+        for bound in (low, high):
+            if bound is not None and not isinstance(bound, bytes):
+                raise TypeError(f"a key is bytes, and not {type(bound).__name__}")
+        return _walk(handle, low, high, reverse)
+
+    def keys(
+        self, low: Optional[bytes] = None, high: Optional[bytes] = None, *, reverse: bool = False
+    ) -> KeysView[bytes]:
+        """Their keys: `entries` says which, and what they are while records change."""
+        return _Keys(self, low, high, reverse)
+
+    def values(
+        self, low: Optional[bytes] = None, high: Optional[bytes] = None, *, reverse: bool = False
+    ) -> ValuesView[bytes]:
+        """Their records."""
+        return _Values(self, low, high, reverse)
+
+    def items(
+        self, low: Optional[bytes] = None, high: Optional[bytes] = None, *, reverse: bool = False
+    ) -> ItemsView[bytes, bytes]:
+        """Their keys and records, in pairs."""
+        return _Items(self, low, high, reverse)
+
+    def first(self) -> Optional[Entry]:
+        """The record of the least key, or None where there is none."""
+        return next(map(Entry._make, self._ready().range(b"", True, False, 1)), None)
+
+    def last(self) -> Optional[Entry]:
+        """The record of the greatest key, or None where there is none."""
+        return next(map(Entry._make, self._ready().range(b"", True, True, 1)), None)
+
+    def committed(self, key: bytes) -> Optional[bytes]:
+        """The record that stands at the key without the changes of open transactions, or None. Nobody's key is held here."""
+        return self._ready().committed(key)
 
     def log_use(self) -> LogUse:
         """How much of the log is used: a change is refused with LogFull where it might need more than `log`."""
@@ -202,6 +246,84 @@ class File(MutableMapping[bytes, bytes]):
 
     def __reduce__(self) -> NoReturn:
         raise TypeError("a recfile.File can't be pickled")
+
+
+# How many entries are read at a time, and how many bytes a key may have.
+_AT_A_TIME = 64
+_KEY_WIDTH = 16
+
+
+def _walk(handle: _recfile.Handle, low: Optional[bytes], high: Optional[bytes], is_down: bool) -> Iterator[Entry]:
+    """The entries from `low` on and below `high`, read some at a time."""
+    start, at_start = (high, False) if is_down else (low, True)
+    if high is not None and not high:
+        return
+    if start is not None and len(start) > _KEY_WIDTH:  # no key is between its first bytes and the whole of it
+        start, at_start = start[:_KEY_WIDTH], is_down
+    key = start or b""
+    while True:
+        some = handle.range(key, at_start, is_down, _AT_A_TIME)
+        for entry in map(Entry._make, some):
+            if not is_down and high is not None and entry.key >= high or is_down and low is not None and entry.key < low:
+                return
+            yield entry
+        if len(some) < _AT_A_TIME:
+            return
+        key, at_start = some[-1][0], False
+
+
+class _Range:
+    """The entries of a file between two keys."""
+
+    def __init__(self, file: File, low: Optional[bytes], high: Optional[bytes], is_down: bool) -> None:
+        self._mapping = file
+        self._low, self._high, self._is_down = low, high, is_down
+        file.entries(low, high)  # raises what those of these bounds do
+
+    def _entries(self, is_turned: bool = False) -> Iterator[Entry]:
+        return self._mapping.entries(self._low, self._high, reverse=self._is_down != is_turned)
+
+    def _has(self, key: object) -> bool:
+        return isinstance(key, bytes) and (self._low is None or self._low <= key) and (self._high is None or key < self._high)
+
+    def __len__(self) -> int:
+        return len(self._mapping) if self._low is None and self._high is None else sum(1 for _ in self._entries())
+
+    def __repr__(self) -> str:
+        return f"{type(self).__name__}({self._mapping!r}, {self._low!r}, {self._high!r})"
+
+
+class _Keys(_Range, KeysView[bytes]):
+    def __contains__(self, key: object) -> bool:
+        return self._has(key) and key in self._mapping
+
+    def __iter__(self) -> Iterator[bytes]:
+        return (entry.key for entry in self._entries())
+
+    def __reversed__(self) -> Iterator[bytes]:
+        return (entry.key for entry in self._entries(True))
+
+
+class _Values(_Range, ValuesView[bytes]):
+    def __contains__(self, value: object) -> bool:
+        return any(entry.record == value for entry in self._entries())
+
+    def __iter__(self) -> Iterator[bytes]:
+        return (entry.record for entry in self._entries())
+
+    def __reversed__(self) -> Iterator[bytes]:
+        return (entry.record for entry in self._entries(True))
+
+
+class _Items(_Range, ItemsView[bytes, bytes]):
+    def __contains__(self, item: object) -> bool:
+        return isinstance(item, tuple) and len(item) == 2 and self._has(item[0]) and self._mapping.get(item[0]) == item[1]
+
+    def __iter__(self) -> Iterator[Tuple[bytes, bytes]]:
+        return ((entry.key, entry.record) for entry in self._entries())
+
+    def __reversed__(self) -> Iterator[Tuple[bytes, bytes]]:
+        return ((entry.key, entry.record) for entry in self._entries(True))
 
 
 def _write(handle: _recfile.Handle, path: bytes, shown: str) -> None:

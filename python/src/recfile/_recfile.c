@@ -279,46 +279,8 @@ static PyObject *handle_log_use(PyObject *self, PyObject *none) {
 }
 
 static PyObject *handle_count(PyObject *self, PyObject *none) {
-    uint64_t count;
-    recfile_detail detail;
     (void)none;
-    if (!is_ours((Handle *)self, NULL))
-        return NULL;
-    int32_t status = recfile_entries(((Handle *)self)->file, &count, &detail);
-    return status == RECFILE_OK ? PyLong_FromUnsignedLongLong(count) : refuse(status, &detail, NULL, NULL, NULL);
-}
-
-/* Bytes of Python's, or none. */
-typedef struct {
-    const char *bytes;
-    Py_ssize_t len;
-} span;
-
-/* 0, or -1 with an exception. */
-static int span_of(PyObject *bytes, span *to) {
-    *to = (span){NULL, 0};
-    return bytes == Py_None ? 0 : PyBytes_AsStringAndSize(bytes, (char **)&to->bytes, &to->len);
-}
-
-/* Below, at or above 0 as a key is below, at or above these bytes. */
-static int compare(const recfile_key_bytes *key, const span *with) {
-    Py_ssize_t len = key->len;
-    int difference = memcmp(key->bytes, with->bytes, (size_t)(len < with->len ? len : with->len));
-    return difference ? difference : (len > with->len) - (len < with->len);
-}
-
-/* The place in the list of the first entry whose key isn't below start. */
-static uint64_t first_from(recfile *file, uint64_t count, const span *start) {
-    uint64_t low = 0, high = start->bytes != NULL ? count : 0;
-    recfile_listed entry;
-    while (low < high) {
-        uint64_t middle = low + (high - low) / 2;
-        if (recfile_entry(file, middle, &entry) == RECFILE_OK && compare(&entry.key, start) < 0)
-            low = middle + 1;
-        else
-            high = middle;
-    }
-    return low;
+    return number_of(self, recfile_count);
 }
 
 /* (key, record, owner or None) */
@@ -330,36 +292,42 @@ static PyObject *tuple_of_entry(const recfile_listed *entry) {
     return Py_BuildValue("y#y#O", key, key_len, value, value_len, Py_None);
 }
 
-/* The entries from start on and below stop, copied: the library has one list a handle, which the next takes the place
- * of. */
-static PyObject *handle_entries(PyObject *self, PyObject *words) {
-    PyObject *from, *below;
-    span start, stop;
+/* At most so many entries from a key on, copied: the library has one list a handle, which the next takes the place of. */
+static PyObject *handle_range(PyObject *self, PyObject *words) {
+    const char *key;
+    Py_ssize_t key_len;
+    int at_key, is_down;
+    unsigned int most;
     uint64_t count;
     recfile_detail detail;
     recfile_listed entry;
     recfile *file = ((Handle *)self)->file;
-    if (!is_ours((Handle *)self, NULL)
-        || !PyArg_ParseTuple(words, "OO", &from, &below) || span_of(from, &start) != 0 || span_of(below, &stop) != 0)
+    if (!is_ours((Handle *)self, NULL) || !PyArg_ParseTuple(words, "y#ppI", &key, &key_len, &at_key, &is_down, &most))
         return NULL;
-    int32_t status = recfile_entries(file, &count, &detail);
+    int32_t status = recfile_range(file, (const uint8_t *)key, (size_t)key_len, at_key != 0, is_down != 0, most, &count,
+                                   &detail);
     if (status != RECFILE_OK)
         return refuse(status, &detail, NULL, NULL, NULL);
     PyObject *list = PyList_New(0);
-    for (uint64_t i = first_from(file, count, &start); list != NULL && i < count; i++) {
+    for (uint64_t i = 0; list != NULL && i < count; i++) {
         status = recfile_entry(file, i, &entry);
-        if (status != RECFILE_OK) {
-            Py_DECREF(list);
-            return done(status);
-        }
-        if (stop.bytes != NULL && compare(&entry.key, &stop) >= 0)
-            break;
-        PyObject *tuple = tuple_of_entry(&entry);
+        PyObject *tuple = status == RECFILE_OK ? tuple_of_entry(&entry) : done(status);
         if (tuple == NULL || PyList_Append(list, tuple) != 0)
             Py_CLEAR(list);
         Py_XDECREF(tuple);
     }
     return list;
+}
+
+static PyObject *handle_committed(PyObject *self, PyObject *key) {
+    char *bytes;
+    Py_ssize_t len;
+    recfile_record found;
+    recfile_detail detail;
+    if (!is_ours((Handle *)self, NULL) || PyBytes_AsStringAndSize(key, &bytes, &len) != 0)
+        return NULL;
+    int32_t status = recfile_committed(((Handle *)self)->file, (const uint8_t *)bytes, (size_t)len, &found, &detail);
+    return status == RECFILE_OK ? bytes_of_record(&found) : refuse(status, &detail, NULL, NULL, key);
 }
 
 /* Takes back each open transaction, those too that no Transaction stands for, as where a signal broke a begin off. */
@@ -397,7 +365,8 @@ static PyMethodDef handle_methods[] = {
     {"log_len", handle_log_len, METH_NOARGS, NULL},
     {"log_use", handle_log_use, METH_NOARGS, NULL},
     {"count", handle_count, METH_NOARGS, NULL},
-    {"entries", handle_entries, METH_VARARGS, NULL},
+    {"range", handle_range, METH_VARARGS, NULL},
+    {"committed", handle_committed, METH_O, NULL},
     {"end_all", handle_end_all, METH_NOARGS, NULL},
     {NULL, NULL, 0, NULL},
 };

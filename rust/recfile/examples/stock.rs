@@ -49,7 +49,8 @@ fn main() -> Result<(), Box<dyn std::error::Error>> {
     let third = file.begin()?;
     fill(&third, 3, &[("lamp", 1)])?;
     third.commit()?;
-    for entry in file.entries()? {
+    for entry in file.entries() {
+        let entry = entry?;
         println!("{} {}", String::from_utf8_lossy(&entry.key), String::from_utf8_lossy(&entry.record));
     }
     Ok(file.close()?)

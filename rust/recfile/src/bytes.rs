@@ -19,6 +19,18 @@ impl<const N: usize> Bytes<N> {
     }
 }
 
+impl Bytes<16> {
+    pub(crate) const WIDTH: usize = 16;
+
+    /// The first bytes, as many as a key may have; none of none.
+    pub(crate) fn front_of(bytes: &[u8]) -> Option<Key> {
+        let len = bytes.len().min(Key::WIDTH);
+        let mut front = [0; Key::WIDTH];
+        front[..len].copy_from_slice(&bytes[..len]);
+        (len > 0).then_some(Key::new(front, len as u8))
+    }
+}
+
 impl<const N: usize> Deref for Bytes<N> {
     type Target = [u8];
 
@@ -57,28 +69,3 @@ pub struct Entry {
     /// The open transaction that owns the key.
     pub owner: Option<u32>,
 }
-
-/// The records of a file as they stood when the list was made, in key order.
-#[derive(Clone, Debug)]
-pub struct Entries(pub(crate) std::vec::IntoIter<Entry>);
-
-impl Iterator for Entries {
-    type Item = Entry;
-
-    fn next(&mut self) -> Option<Entry> {
-        self.0.next()
-    }
-
-    fn size_hint(&self) -> (usize, Option<usize>) {
-        self.0.size_hint()
-    }
-}
-
-impl DoubleEndedIterator for Entries {
-    fn next_back(&mut self) -> Option<Entry> {
-        self.0.next_back()
-    }
-}
-
-impl ExactSizeIterator for Entries {}
-impl std::iter::FusedIterator for Entries {}

@@ -1,4 +1,5 @@
-use crate::bytes::{Bytes, Entries, Entry};
+use crate::bytes::{Bytes, Entry, Record};
+use crate::entries::Entries;
 use crate::transaction::Transaction;
 use crate::{sys, Error, Options, Result};
 use std::cell::Cell;
@@ -7,7 +8,7 @@ use std::fmt;
 use std::fs;
 use std::marker::PhantomData;
 use std::mem::{ManuallyDrop, MaybeUninit};
-use std::ops::{Bound, RangeBounds};
+use std::ops::RangeBounds;
 use std::os::raw::c_int;
 use std::os::unix::io::FromRawFd;
 use std::path::Path;
@@ -94,42 +95,71 @@ impl File {
         Ok(Transaction::new(self, number))
     }
 
-    /// The records as they stand now, in key order, also those that open transactions have put. Errors: `Memory`,
-    /// `Damaged`.
-    pub fn entries(&self) -> Result<Entries> {
+    /// The records in key order, also those that open transactions have put, and without those that they have taken out.
+    pub fn entries(&self) -> Entries<'_> {
         self.range::<&[u8], _>(..)
     }
 
-    /// Those whose keys are in a range, as `file.range("a".."c")`.
-    pub fn range<K, R>(&self, keys: R) -> Result<Entries>
+    /// Those whose keys are in a range, as `file.range("a".."c")`. Its items are errors where a page is `Damaged` or there is no
+    /// `Memory`.
+    pub fn range<K, R>(&self, keys: R) -> Entries<'_>
     where
         K: AsRef<[u8]>,
         R: RangeBounds<K>,
     {
+        Entries::new(self, &keys)
+    }
+
+    /// The record of the least key. Errors: `Memory`, `Damaged`.
+    pub fn first(&self) -> Result<Option<Entry>> {
+        self.entries().next().transpose()
+    }
+
+    /// The record of the greatest key. Errors: `Memory`, `Damaged`.
+    pub fn last(&self) -> Result<Option<Entry>> {
+        self.entries().next_back().transpose()
+    }
+
+    /// The record that stands at a key without the changes of open transactions. Errors: `EmptyKey`, `LongKey`, `Damaged`.
+    pub fn committed(&self, key: &[u8]) -> Result<Option<Record>> {
+        let mut found = MaybeUninit::<sys::Found>::uninit();
+        let mut detail = sys::Detail::default();
+        // SAFETY: the handle is one, the key has its length, and OK means that all of `found` was written.
+        let found = unsafe {
+            match sys::recfile_committed(self.at(), key.as_ptr(), key.len(), found.as_mut_ptr(), &mut detail) {
+                sys::OK => found.assume_init(),
+                other => return Err(Error::of(other, &detail)),
+            }
+        };
+        Ok((found.is_there != 0).then(|| Bytes::new(found.bytes, found.len)))
+    }
+
+    /// How many records there are, also those that open transactions have put.
+    pub fn count(&self) -> Result<u32> {
+        let mut n = 0;
+        // SAFETY: the handle is one, and `n` is written to.
+        self.done(unsafe { sys::recfile_count(self.at(), &mut n) })?;
+        Ok(n)
+    }
+
+    /// At most so many entries from a key on, in key order or the greatest key first; of no bytes those from that end on.
+    pub(crate) fn some_from(&self, key: &[u8], at_key: bool, is_down: bool, most: u32) -> Result<Vec<Entry>> {
         let (mut count, mut detail) = (0, sys::Detail::default());
-        // SAFETY: the handle is one; the rest is written to.
-        let status = unsafe { sys::recfile_entries(self.at(), &mut count, &mut detail) };
+        // SAFETY: the handle is one, the key has its length; the rest is written to.
+        let status = unsafe {
+            let (at_key, is_down) = (at_key.into(), is_down.into());
+            sys::recfile_range(self.at(), key.as_ptr(), key.len(), at_key, is_down, most, &mut count, &mut detail)
+        };
         if status != sys::OK {
             return Err(Error::of(status, &detail));
         }
-        let place = |is_before: &dyn Fn(&[u8]) -> bool| self.place_where(count, is_before);
-        let first = match keys.start_bound() {
-            Bound::Included(start) => place(&|key| key < start.as_ref())?,
-            Bound::Excluded(start) => place(&|key| key <= start.as_ref())?,
-            Bound::Unbounded => 0,
-        };
-        let end = match keys.end_bound() {
-            Bound::Included(end) => place(&|key| key <= end.as_ref())?,
-            Bound::Excluded(end) => place(&|key| key < end.as_ref())?,
-            Bound::Unbounded => count,
-        };
         // The library keeps one list a handle, which the next one takes the place of: so it is copied.
         let mut out = Vec::new();
-        out.try_reserve(end.saturating_sub(first) as usize).map_err(|_| Error::Memory)?;
-        for i in first..end {
+        out.try_reserve(count as usize).map_err(|_| Error::Memory)?;
+        for i in 0..count {
             out.push(self.entry(i)?);
         }
-        Ok(Entries(out.into_iter()))
+        Ok(out)
     }
 
     /// Entry i of the list that was made last.
@@ -145,20 +175,6 @@ impl File {
             record: Bytes::new(told.value.bytes, told.value.len),
             owner: (told.is_owned != 0).then_some(told.owner),
         })
-    }
-
-    /// How many entries at the beginning of that list have keys of which this holds.
-    fn place_where(&self, count: u64, is_before: &dyn Fn(&[u8]) -> bool) -> Result<u64> {
-        let (mut low, mut high) = (0, count);
-        while low < high {
-            let middle = low + (high - low) / 2;
-            if is_before(&self.entry(middle)?.key) {
-                low = middle + 1;
-            } else {
-                high = middle;
-            }
-        }
-        Ok(low)
     }
 
     /// The length of the log with what the live changes may yet need: a change that might need more than there may be is

@@ -18,7 +18,7 @@
 //! }
 //! first.commit()?;
 //! drop(second); // backs out
-//! let keys: Vec<_> = file.entries()?.map(|entry| entry.key).collect();
+//! let keys = file.entries().map(|entry| entry.map(|it| it.key)).collect::<recfile::Result<Vec<_>>>()?;
 //! assert_eq!(keys, [b"apple"]);
 //! # Ok(())
 //! # }
@@ -63,13 +63,15 @@
 //! ```
 #![deny(unsafe_op_in_unsafe_fn, missing_docs, missing_debug_implementations)]
 mod bytes;
+mod entries;
 mod error;
 mod file;
 mod options;
 mod sys;
 mod transaction;
 
-pub use bytes::{Bytes, Entries, Entry, Key, Record};
+pub use bytes::{Bytes, Entry, Key, Record};
+pub use entries::Entries;
 pub use error::{Error, Result};
 pub use file::{File, Unclosed};
 pub use options::Options;

@@ -171,7 +171,24 @@ extern "C" {
     pub fn recfile_status(file: *mut recfile, tx: u32, told: *mut TxStatus) -> i32;
     pub fn recfile_begun(file: *mut recfile, n: *mut u32) -> i32;
     pub fn recfile_log_use(file: *mut recfile, n: *mut u32) -> i32;
-    pub fn recfile_entries(file: *mut recfile, n: *mut u64, detail: *mut Detail) -> i32;
+    pub fn recfile_count(file: *mut recfile, n: *mut u32) -> i32;
+    pub fn recfile_committed(
+        file: *mut recfile,
+        key: *const u8,
+        key_len: usize,
+        found: *mut Found,
+        detail: *mut Detail,
+    ) -> i32;
+    pub fn recfile_range(
+        file: *mut recfile,
+        key: *const u8,
+        key_len: usize,
+        at_key: u8,
+        is_down: u8,
+        most: u32,
+        n: *mut u64,
+        detail: *mut Detail,
+    ) -> i32;
     pub fn recfile_entry(file: *mut recfile, i: u64, told: *mut Listed) -> i32;
     pub fn recfile_keys_of(file: *mut recfile, tx: u32, n: *mut u64) -> i32;
     pub fn recfile_key(file: *mut recfile, i: u64, told: *mut KeyBytes) -> i32;

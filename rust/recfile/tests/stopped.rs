@@ -82,7 +82,7 @@ fn a_rollback_that_stops_is_gone_on_with() {
     // One that is dropped while memory is refused is gone on with when the file is closed.
     let order = emptied(&file);
     refusals.during(|| drop(order));
-    assert_eq!(file.entries().unwrap().len(), 0);
+    assert_eq!(file.count().unwrap(), 0);
     file.close().unwrap();
     assert_eq!(support::dump(&path).len(), 200);
 }

@@ -2,7 +2,7 @@
 use recfile::{Error, File, Options, Status};
 
 fn keys(file: &File) -> Vec<String> {
-    file.entries().unwrap().map(|entry| String::from_utf8(entry.key.to_vec()).unwrap()).collect()
+    file.entries().map(|entry| String::from_utf8(entry.unwrap().key.to_vec()).unwrap()).collect()
 }
 
 #[test]
@@ -86,28 +86,82 @@ fn refusals() {
 }
 
 #[test]
-fn lists_are_copies_and_have_ranges() {
+fn ranges_go_on_over_changes_and_give_each_key_once() {
     let file = File::memory().unwrap();
     let order = file.begin().unwrap();
-    for i in 0..100u8 {
+    for i in 0..200u8 {
         order.put(&[i], &[i; 100]).unwrap();
     }
-    let mut entries = file.entries().unwrap();
-    assert_eq!((entries.len(), entries.next_back().unwrap().key.to_vec()), (100, vec![99]));
-    assert_eq!(entries.next().unwrap().key, [0u8]);
-    order.remove(&[1]).unwrap();
-    assert_eq!(file.entries().unwrap().len(), 99);
-    let next = entries.next().unwrap();
-    assert_eq!((next.key.to_vec(), next.record.len(), next.owner), (vec![1], 100, Some(1)));
+    let mut entries = file.entries();
+    assert_eq!(entries.next_back().unwrap().unwrap().key, [199u8]);
+    assert_eq!(entries.next().unwrap().unwrap().key, [0u8]);
+    for i in (0..200u8).filter(|i| i % 2 == 1) {
+        order.remove(&[i]).unwrap();
+    }
+    assert_eq!(file.count().unwrap(), 100);
+    let rest: Vec<_> = entries.by_ref().map(|entry| entry.unwrap().key[0]).collect();
+    assert!(rest.windows(2).all(|two| two[0] < two[1]));
+    assert!((1..100u8).all(|i| rest.contains(&(2 * i))));
+    assert!(entries.next_back().is_none());
+}
 
-    let count = |keys: (std::ops::Bound<[u8; 1]>, std::ops::Bound<[u8; 1]>)| file.range(keys).unwrap().len();
-    use std::ops::Bound::{Excluded, Included, Unbounded};
-    assert_eq!(count((Included([10]), Excluded([20]))), 10);
-    assert_eq!(count((Excluded([10]), Included([20]))), 10);
-    assert_eq!(count((Unbounded, Included([1]))), 1);
-    assert_eq!(count((Included([98]), Unbounded)), 2);
-    assert_eq!(count((Included([20]), Excluded([10]))), 0);
-    assert_eq!(file.range("\u{5}".."\u{7}").unwrap().count(), 2);
+#[test]
+fn ranges_have_both_ends() {
+    let file = File::memory().unwrap();
+    let order = file.begin().unwrap();
+    for i in 0..200u8 {
+        order.put(&[i], &[i; 100]).unwrap();
+    }
+    let told = |keys: (Bound<Vec<u8>>, Bound<Vec<u8>>)| {
+        let up: Vec<_> = file.range(keys.clone()).map(|entry| entry.unwrap().key[0]).collect();
+        let mut down: Vec<_> = file.range(keys).rev().map(|entry| entry.unwrap().key[0]).collect();
+        down.reverse();
+        assert_eq!(up, down);
+        (up.len(), up.first().copied(), up.last().copied())
+    };
+    let long = |byte: u8| vec![byte; 17];
+    use std::ops::Bound::{self, Excluded, Included, Unbounded};
+    assert_eq!(told((Unbounded, Unbounded)), (200, Some(0), Some(199)));
+    assert_eq!(told((Included(vec![10]), Excluded(vec![90]))), (80, Some(10), Some(89)));
+    assert_eq!(told((Excluded(vec![10]), Included(vec![90]))), (80, Some(11), Some(90)));
+    assert_eq!(told((Included(long(10)), Excluded(long(90)))), (80, Some(11), Some(90)));
+    assert_eq!(told((Excluded(long(10)), Included(long(90)))), (80, Some(11), Some(90)));
+    assert_eq!(told((Unbounded, Included(vec![1]))), (2, Some(0), Some(1)));
+    assert_eq!(told((Included(vec![198]), Unbounded)), (2, Some(198), Some(199)));
+    assert_eq!(told((Included(vec![20]), Excluded(vec![10]))), (0, None, None));
+    assert_eq!(told((Included(vec![]), Excluded(vec![]))), (0, None, None));
+    assert_eq!(file.range("\u{5}".."\u{7}").count(), 2);
+    let mut both = file.range::<&[u8], _>(..);
+    let (mut met, mut fell) = (Vec::new(), Vec::new());
+    while let Some(entry) = both.next() {
+        met.push(entry.unwrap().key[0]);
+        fell.extend(both.next_back().map(|entry| entry.unwrap().key[0]));
+    }
+    fell.reverse();
+    assert_eq!([met, fell].concat(), (0..200).collect::<Vec<u8>>());
+}
+
+#[test]
+fn ends_and_what_is_committed() {
+    let file = File::memory().unwrap();
+    assert!(file.first().unwrap().is_none() && file.last().unwrap().is_none() && file.count().unwrap() == 0);
+    let first = file.begin().unwrap();
+    first.put(b"a", b"1").unwrap();
+    first.put(b"b", b"2").unwrap();
+    first.commit().unwrap();
+    let second = file.begin().unwrap();
+    second.put(b"a", b"3").unwrap();
+    second.remove(b"b").unwrap();
+    second.put(b"c", b"4").unwrap();
+    let (least, greatest) = (file.first().unwrap().unwrap(), file.last().unwrap().unwrap());
+    assert_eq!(
+        (least.key.to_vec(), least.record.to_vec(), least.owner),
+        (b"a".to_vec(), b"3".to_vec(), Some(second.number()))
+    );
+    assert_eq!(greatest.key, b"c");
+    let committed = |key: &[u8]| file.committed(key).unwrap().map(|record| record.to_vec());
+    assert_eq!((committed(b"a"), committed(b"b"), committed(b"c")), (Some(b"1".to_vec()), Some(b"2".to_vec()), None));
+    assert!(matches!(file.committed(b""), Err(Error::EmptyKey)));
 }
 
 #[test]

@@ -28,7 +28,8 @@ impl Drop for Room {
 /// The records of a file on the disk.
 #[allow(dead_code)]
 pub fn dump(path: &Path) -> Vec<(Vec<u8>, Vec<u8>)> {
-    let entries = File::open(path).unwrap().entries().unwrap();
+    let file = File::open(path).unwrap();
+    let entries = file.entries().map(|entry| entry.unwrap());
     entries.map(|entry| (entry.key.to_vec(), entry.record.to_vec())).collect()
 }
 
