@@ -221,12 +221,29 @@ pub fn push_entry(
     ensures { OnOk result (string_bytes text.new ≡ string_bytes text.old
         ++ entry_line (record { key = key.now; value = value.now; owner = owner })) }
 {
-    text.push_str("- ")?;
-    push_escaped(text, key.bytes())?;
-    text.push_str(" =")?;
-    push_escaped(text, value)?;
-    push_owner(text, owner)?;
+    let Ok(()) = text.push_str("- ") else {
+        return Err(refused());
+    };
+    let Ok(()) = push_escaped(text, key.bytes()) else {
+        return Err(refused());
+    };
+    let Ok(()) = text.push_str(" =") else {
+        return Err(refused());
+    };
+    let Ok(()) = push_escaped(text, value) else {
+        return Err(refused());
+    };
+    let Ok(()) = push_owner(text, owner) else {
+        return Err(refused());
+    };
     text.push_str("\n")
+}
+
+// That memory is refused. What leads here is rare, so that what doesn't goes into its callers.
+#[cold]
+#[inline(never)]
+fn refused() -> AllocError {
+    AllocError
 }
 
 /// Appends the line behind a list, which tells how many lines that has. Fault: that memory is refused.
