@@ -11,6 +11,8 @@ ghost use Rattle.rec_types.specs.declared.transaction.TxId.{TxId};
 ghost use Rattle.record_file.specs.Abstract.{File, new_file, open_of};
 ghost use Rattle.record_file.specs.Durable.{overlay};
 ghost use Rattle.record_file.specs.Examples.{entries_at_a_and_b, owned_at_a};
+ghost use Rattle.record_file.specs.Steps.{tx_refusal};
+ghost use Rattle.command_text.specs.declared.reply.Unkept.TheVariants as unkept;
 ghost use Rattle.record_file.specs.Runs.{EntriesBeside, IsKeptSeen, Seen};
 ghost use Rattle.page_store.specs.Journal.{Journal, noted_steps};
 ghost use Rattle.page_store.specs.declared.step.Step.TheVariants as steps;
@@ -185,12 +187,20 @@ pub fn sessions_by_example()
 /// What `from` tells by example: the first of the entries at its key and above, of all that the call answered. Not what lies on the
 /// other side, which `upto` tells, and not without the call.
 pub fn ordered_reads_by_example()
-    ensures from { ScriptTellsOf false (Ok (command.From (97 ∷ []) 1)) (reply.List (Ok (owned_at_a ∷ [])))
-        (EntriesBeside After (gaps.Before (97 ∷ [])) (Ok entries_at_a_and_b) ∷ []) }
-    ensures other_side { ScriptTellsOf false (Ok (command.Upto (97 ∷ []) 1)) (reply.List (Ok (owned_at_a ∷ [])))
-        (EntriesBeside After (gaps.Before (97 ∷ [])) (Ok entries_at_a_and_b) ∷ []) → ⊥ }
-    ensures unasked { ScriptTellsOf false (Ok (command.From (97 ∷ []) 1))
+    ensures from { (old : Seen) → ScriptTellsOf old (Ok (command.From (97 ∷ []) 1))
+        (reply.List (Ok (owned_at_a ∷ []))) (EntriesBeside After (gaps.Before (97 ∷ [])) (Ok entries_at_a_and_b) ∷ []) }
+    ensures other_side { (old : Seen) → ScriptTellsOf old (Ok (command.Upto (97 ∷ []) 1))
+        (reply.List (Ok (owned_at_a ∷ []))) (EntriesBeside After (gaps.Before (97 ∷ [])) (Ok entries_at_a_and_b) ∷ []) → ⊥ }
+    ensures unasked { (old : Seen) → ScriptTellsOf old (Ok (command.From (97 ∷ []) 1))
         (reply.List (Ok (owned_at_a ∷ []))) [] → ⊥ }
+{}
+
+/// A commit is told as one that wasn't kept only where it would have been accepted, and where commits are kept at all.
+pub fn unkept_commits_by_example()
+    ensures refused { (old : Seen) (t : TxId) → tx_refusal old.file t.0 None ≢ None
+        → ScriptTellsOf old (Ok (command.Commit t)) (reply.Unkept unkept.Memory) [] → ⊥ }
+    ensures unlogged { (old : Seen) (t : TxId) → old.logged ≡ false
+        → ScriptTellsOf old (Ok (command.Commit t)) (reply.Unkept unkept.Memory) [] → ⊥ }
 {}
 
 /// After a session of status 0 no read and no write has failed. A ReadFault isn't answered where no read failed, nor Ok where
